@@ -1,0 +1,12 @@
+pub mod Digits
+pub mod Spelling
+pub mod Splitting
+pub mod Letters
+pub mod Endings
+pub mod Inverting
+pub mod OneText
+pub mod Amounts
+pub mod OneOpening
+pub mod Cutting
+pub mod Replying
+pub mod Keeping
