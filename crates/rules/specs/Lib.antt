@@ -1,0 +1,5 @@
+pub mod Model
+pub mod Faults
+pub mod Count
+pub mod Gap
+pub mod Both
