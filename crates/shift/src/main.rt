@@ -5,6 +5,9 @@ mod run;
 
 use std::io;
 
+#[cfg(test)]
+mod tests;
+
 fn main(rt: LibcRuntime) -> io::Result<()> {
     run::run(rt.stdin(), rt.stdout(), rt.alloc())
 }

@@ -20,3 +20,6 @@ pub use opening::read_opening;
 pub use reply::Reply;
 pub use reply_line::ReplyLine;
 pub use reply_line::ReplyLineDisplay;
+
+#[cfg(test)]
+mod tests;

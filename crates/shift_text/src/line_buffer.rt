@@ -1,8 +1,7 @@
 // A line that comes byte by byte.
-ghost use Prim.Native.Nat.{_≤_, ℕ};
-ghost use Rattle.shift_text.specs.Buffers.{Holds};
-ghost use lib.ListN.{take};
-ghost use mathlib.Core.List.{List, [], _++_, _∷_};
+ghost use Prim.Native.Nat.{_≤_};
+ghost use Rattle.shift_text.specs.Buffers.{Holds, Push-holds, buffer, content, pushed};
+ghost use mathlib.Core.List.{[]};
 ghost use mathlib.Core.Path.{_≡_};
 use crate::lines::LONGEST;
 
@@ -13,42 +12,49 @@ const KEPT: usize = LONGEST + 1;
 #[derive(Clone, Copy)]
 pub struct LineBuffer {
     bytes: [u8; KEPT],
-    len: usize,
-    ghost within: { len ≤ 81 },
+    used: usize,
+    ghost within: { used ≤ 81 },
 }
+
+// Does nothing: its contract is that a buffer keeps what is to be kept of its line.
+fn push_holds()
+    ensures { λ _. ⌜ Push-holds ⌝ }
+{}
 
 impl LineBuffer {
     // The empty line.
     pub fn new() -> LineBuffer
-        ensures { λ r. ⌜ Holds (r .len) (r .bytes) [] ⌝ }
+        ensures { λ r. ⌜ Holds (buffer (r .bytes) (r .used)) [] ⌝ }
     {
         LineBuffer {
             bytes: [0; KEPT],
-            len: 0,
+            used: 0,
         }
     }
 
     // The line so far.
     pub fn bytes(&self) -> &[u8]
-        ensures { λ r. ⌜ now r ≡ take (now (self .entry) .len) (now (self .entry) .bytes) ⌝ }
+        ensures { λ r. ⌜ now r ≡ content (buffer (now (self .entry) .bytes) (now (self .entry) .used)) ⌝ }
     {
-        &self.bytes[0..self.len]
+        &self.bytes[0..self.used]
     }
 
     // One byte more.
     pub fn push(&mut self, byte: u8)
-        ensures { λ _. ⌜ ((line : List ℕ) → Holds (now (self .entry) .len) (now (self .entry) .bytes) line → Holds (now (self .exit) .len) (now (self .exit) .bytes) (line ++ byte ∷ [])) ⌝ }
+        ensures after { λ _. ⌜ buffer (now (self .exit) .bytes) (now (self .exit) .used) ≡ pushed (buffer (now (self .entry) .bytes) (now (self .entry) .used)) byte ⌝ }
+        ensures holds { λ _. ⌜ Push-holds ⌝ }
     {
-        if self.len < KEPT {
-            self.bytes[self.len] = byte;
-            self.len += 1;
+        push_holds();
+        if self.used < KEPT {
+            self.bytes[self.used] = byte;
+            self.used += 1;
         }
     }
 
     // The next line begins.
     pub fn clear(&mut self)
-        ensures { λ _. ⌜ Holds (now (self .exit) .len) (now (self .exit) .bytes) [] ⌝ }
+        ensures { λ _. ⌜ Holds (buffer (now (self .exit) .bytes) (now (self .exit) .used)) [] ⌝ }
     {
-        self.len = 0;
+        self.used = 0;
     }
 }
