@@ -1,11 +1,13 @@
 -- The fields of a line of text, and how one field is read.
 use mathlib.Core.Bool.{Bool, cond, not, _&&_, _||_}
+use mathlib.Core.Path.{_≡_}
 use mathlib.Core.List.{List, [], _∷_, _++_}
 use Prim.Native.Nat.{ℕ, _+_, _-_, _*_}
 use lib.Dec.{eqb, leb}
 use lib.ListN.{length, getD}
 use Rattle.std.specs.declared.option.Option.{Option}
 use Rattle.std.specs.declared.option.Option.the-variants.{None, Some}
+use Rattle.std.specs.Options.{mapped}
 use Rattle.std.specs.shelf.Text.{allDigits}
 
 -- the bytes of one field
@@ -55,3 +57,8 @@ beside (Some a) fs = Some (a, fs)
 abbrev pub first : {A : Type 0} → (Field → Option A) → List Field → Option (A × List Field)
 first read [] = None
 first read (f ∷ fs) = beside (read f) fs
+
+-- the answer r, whose rest of the line `bytes` tells, is what was read and the fields after it
+abbrev pub Taken : {A B : Type 0} → (B → List ℕ) → Option (A × List Field) → Option (A × Option B) → Type 0
+Taken bytes read None = read ≡ None
+Taken bytes read (Some p) = read ≡ Some (p .0, left (mapped bytes (p .1)))

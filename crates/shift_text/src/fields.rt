@@ -1,7 +1,6 @@
 // The fields of a line of text.
-ghost use Rattle.shift_text.specs.Fields.{first, left, number as numberOf, one-byte};
+ghost use Rattle.shift_text.specs.Fields.{Taken, first, left, number as numberOf, one-byte};
 ghost use Rattle.std.specs.Options.{mapped};
-ghost use Rattle.std.specs.declared.option.Option.the-variants.{None, Some};
 ghost use denote.Ref.{now};
 ghost use mathlib.Core.Path.{_≡_};
 use crate::numbers::NO_NUMBER;
@@ -9,7 +8,7 @@ use crate::numbers::number;
 
 // The number in the first of the fields that are left, and the fields after it. None where that field is missing or wrong.
 pub(crate) fn number_field(fields: Option<&[u8]>) -> Option<(u32, Option<&[u8]>)>
-    ensures { λ r. ⌜ elim r [ None ↦ first numberOf (left (mapped now (fields .entry))) ≡ None | Some p ↦ first numberOf (left (mapped now (fields .entry))) ≡ Some (p .0, left (mapped now (p .1))) ] ⌝ }
+    ensures { λ r. ⌜ Taken now (first numberOf (left (mapped now (fields .entry)))) r ⌝ }
 {
     let Some(bytes) = fields else {
         return None;
@@ -27,7 +26,7 @@ pub(crate) fn number_field(fields: Option<&[u8]>) -> Option<(u32, Option<&[u8]>)
 
 // The letter that is the first of the fields that are left, and the fields after it. None where that field is not one byte.
 pub(crate) fn letter_field(fields: Option<&[u8]>) -> Option<(char, Option<&[u8]>)>
-    ensures { λ r. ⌜ elim r [ None ↦ first one-byte (left (mapped now (fields .entry))) ≡ None | Some p ↦ first one-byte (left (mapped now (fields .entry))) ≡ Some (p .0, left (mapped now (p .1))) ] ⌝ }
+    ensures { λ r. ⌜ Taken now (first one-byte (left (mapped now (fields .entry)))) r ⌝ }
 {
     let Some(bytes) = fields else {
         return None;

@@ -1,9 +1,8 @@
 // A line of text to a call.
-ghost use Rattle.shift_text.specs.Fields.{left};
+ghost use Rattle.shift_text.specs.Fields.{Taken, left};
 ghost use Rattle.shift_text.specs.Lines.{book as bookOf, by-letter as byLetter, call as callOf, ended, lettered as letteredOf, withdraw as withdrawOf};
 ghost use Rattle.shift_text.specs.Texts.{Read, Writable, text};
 ghost use Rattle.std.specs.Options.{mapped};
-ghost use Rattle.std.specs.declared.option.Option.the-variants.{None, Some};
 ghost use denote.Ref.{now};
 ghost use mathlib.Core.Path.{_≡_};
 use crate::fields::letter_field;
@@ -17,7 +16,7 @@ pub const LONGEST: usize = 80;
 
 // The letter of the line, and the fields after it. None where the line is too long or its first field is no letter.
 pub(crate) fn lettered(line: &[u8]) -> Option<(char, Option<&[u8]>)>
-    ensures { λ r. ⌜ elim r [ None ↦ letteredOf (now (line .entry)) ≡ None | Some p ↦ letteredOf (now (line .entry)) ≡ Some (p .0, left (mapped now (p .1))) ] ⌝ }
+    ensures { λ r. ⌜ Taken now (letteredOf (now (line .entry))) r ⌝ }
 {
     if line.len() > LONGEST {
         return None;

@@ -1,9 +1,8 @@
 // The first line of a shift: the fault rule and the inspection.
-ghost use Rattle.shift_text.specs.Fields.{first, left};
+ghost use Rattle.shift_text.specs.Fields.{Taken, first, left};
 ghost use Rattle.shift_text.specs.Openings.{amount, by-letter as byLetter, inspection as inspectionOf, kind as kindOf, opened, opening as openingOf, rule as ruleOf};
 ghost use Rattle.shift_text.specs.Texts.{Read, Writable-opening, opening-text};
 ghost use Rattle.std.specs.Options.{mapped};
-ghost use Rattle.std.specs.declared.option.Option.the-variants.{None, Some};
 ghost use denote.Ref.{now};
 ghost use mathlib.Core.Path.{_≡_};
 use crate::choice::FaultRule;
@@ -20,7 +19,7 @@ use inspections::Inspection;
 // The number in the first of the fields that are left, or nothing where it is a hyphen, and the fields after it. None where that
 // field is missing or wrong.
 fn amount_field(fields: Option<&[u8]>) -> Option<(Option<u32>, Option<&[u8]>)>
-    ensures { λ r. ⌜ elim r [ None ↦ first amount (left (mapped now (fields .entry))) ≡ None | Some p ↦ first amount (left (mapped now (fields .entry))) ≡ Some (p .0, left (mapped now (p .1))) ] ⌝ }
+    ensures { λ r. ⌜ Taken now (first amount (left (mapped now (fields .entry)))) r ⌝ }
 {
     if let Some((number, after)) = number_field(fields) {
         return Some((Some(number), after));
@@ -44,7 +43,7 @@ fn inspection_kind(letter: char) -> Option<InspectionKind>
 
 // The inspection that the first of the fields that are left names, and the fields after it.
 fn inspection_field(fields: Option<&[u8]>) -> Option<(InspectionKind, Option<&[u8]>)>
-    ensures { λ r. ⌜ elim r [ None ↦ first inspectionOf (left (mapped now (fields .entry))) ≡ None | Some p ↦ first inspectionOf (left (mapped now (fields .entry))) ≡ Some (p .0, left (mapped now (p .1))) ] ⌝ }
+    ensures { λ r. ⌜ Taken now (first inspectionOf (left (mapped now (fields .entry)))) r ⌝ }
 {
     let Some((letter, after)) = letter_field(fields) else {
         return None;
