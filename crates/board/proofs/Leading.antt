@@ -1,7 +1,7 @@
 -- How faults lead on by one quarter.
-use mathlib.Core.Path.{_≡_, refl, sym, ap, subst, _∙_}
+use mathlib.Core.Path.{_≡_, sym, ap, subst, _∙_}
 use mathlib.Core.List.{List, [], _++_, _∷_}
-use Prim.Native.Nat.{ℕ, zero, suc, _+_, _-_, _<_, _≤_}
+use Prim.Native.Nat.{ℕ, zero, suc, _+_, _-_, _<_}
 use native.Mathlib.Omega.{arith}
 use Rattle.board.specs.Faults.{Leads}
 use Rattle.rules.specs.Faults.{Allowed}
@@ -9,7 +9,7 @@ use Rattle.rules.specs.Model.{Laws, Model, cleans}
 use Rattle.std.specs.declared.option.Option.the-variants.{Some}
 
 -- as many clean quarters
-pub same-cleans : (m : Model) (a b s : ℕ) → a ≡ b → cleans m a s ≡ cleans m b s
+same-cleans : (m : Model) (a b s : ℕ) → a ≡ b → cleans m a s ≡ cleans m b s
 same-cleans m a b s e = ap (λ n. cleans m n s) e
 
 pub leads-clean : (m : Model) (s c d t : ℕ) (f : List ℕ) → Leads m s c f d t → Leads m s c f (d + 1) (m .clean t)
@@ -40,7 +40,7 @@ allowed-leads m s c d t (q ∷ f) (u, late, by, permitted, rest) (v, late′, by
     allowed-leads m u q d t f rest (subst (λ x. Allowed m x q (f ++ ((d + 1) ∷ []))) same rest′)
 
 module _ (m : Model) (laws : Laws m) where
-  pub cleans-stay : (n s : ℕ) → s < m .size → cleans m n s < m .size
+  cleans-stay : (n s : ℕ) → s < m .size → cleans m n s < m .size
   cleans-stay zero s h = h
   cleans-stay (suc n) s h = laws .clean-stays _ (cleans-stay n s h)
 

@@ -52,23 +52,27 @@ moment clock state = record { clock = clock; state = state }
 abbrev pub quarter : Result Event Refusal → ℕ → ℕ → Quarter
 quarter answer clock state = record { answer = answer; after = moment clock state }
 
--- Before the clock ends, a clean quarter after the faults f is idle, and f are still the faults seen.
-abbrev pub Pass-seen : Model → Type 0
-Pass-seen m =
-    (w : Moment) (f : List ℕ) → 0 < m .size → Seen m f (w .clock) (w .state) → w .clock < 4096 →
-    (passed m w .answer ≡ Ok Idle) × Seen m f (w .clock + 1) (passed m w .after .state)
+-- A clean quarter q at the moment w, before the clock ends: whatever faults the board has seen, it is idle, and the board has seen the same faults after it.
+abbrev pub Pass-seen : Model → Moment → Quarter → Type 0
+Pass-seen m w q =
+    (f : List ℕ) → 0 < m .size → Seen m f (w .clock) (w .state) → w .clock < 4096 →
+    (q .answer ≡ Ok Idle) × (q .after .clock ≡ w .clock + 1) × Seen m f (q .after .clock) (q .after .state)
 
 -- the faults f and one in the quarter after the clock
 abbrev pub one-more : List ℕ → Moment → List ℕ
 one-more f w = f ++ ((w .clock + 1) ∷ [])
 
--- A spoiled quarter after the faults f is answered idle just where the rule allows the faults with this one, which are then those seen,
--- and it is forbidden just where the rule does not allow them.
-pub record Spoiled-after (m : Model) (w : Moment) (f : List ℕ) : Type 0 where
-  pub allowed : (spoiled m w .answer ≡ Ok Idle) ↔ Allowed m (m .opening) 0 (one-more f w)
-  pub forbidden : (spoiled m w .answer ≡ Err FaultForbidden) ↔ (Allowed m (m .opening) 0 (one-more f w) → ⊥)
-  pub seen : spoiled m w .answer ≡ Ok Idle → Seen m (one-more f w) (w .clock + 1) (spoiled m w .after .state)
+-- A spoiled quarter q at the moment w, after the faults f.
+pub record Spoiled-after (m : Model) (w : Moment) (q : Quarter) (f : List ℕ) : Type 0 where
+  -- it is idle just where the rule allows the faults with this one
+  pub allowed : (q .answer ≡ Ok Idle) ↔ Allowed m (m .opening) 0 (one-more f w)
+  -- which are then the faults seen, at the next clock
+  pub seen : q .answer ≡ Ok Idle → (q .after .clock ≡ w .clock + 1) × Seen m (one-more f w) (q .after .clock) (q .after .state)
+  -- it is forbidden just where the rule does not allow them
+  pub forbidden : (q .answer ≡ Err FaultForbidden) ↔ (Allowed m (m .opening) 0 (one-more f w) → ⊥)
+  -- and nothing moves then
+  pub still : q .answer ≡ Err FaultForbidden → q .after ≡ w
 
--- so before the clock ends
-abbrev pub Spoil-seen : Model → Type 0
-Spoil-seen m = (w : Moment) (f : List ℕ) → 0 < m .size → Seen m f (w .clock) (w .state) → w .clock < 4096 → Spoiled-after m w f
+-- That holds before the clock ends, whatever faults the board has seen.
+abbrev pub Spoil-seen : Model → Moment → Quarter → Type 0
+Spoil-seen m w q = (f : List ℕ) → 0 < m .size → Seen m f (w .clock) (w .state) → w .clock < 4096 → Spoiled-after m w q f

@@ -1,3 +1,4 @@
+// A board, and how it is opened.
 ghost use Prim.Native.Nat.{_<_, _≤_};
 ghost use Rattle.board.specs.Faults.{Seen};
 ghost use Rattle.calls.specs.declared.refusal.Refusal.the-variants.{NoRule};

@@ -10,20 +10,30 @@ use rules::Rule;
 // The clock ends here.
 const LAST: u32 = 4096;
 
-// Does nothing: its contract is how the faults that a board has seen go on with a quarter.
-fn faults_seen<R: Rule>(rule: &R)
-    ensures pass { λ _. ⌜ Pass-seen (R·Rule .model (now (rule .entry))) ⌝ }
-    ensures spoil { λ _. ⌜ Spoil-seen (R·Rule .model (now (rule .entry))) ⌝ }
-{}
-
 impl<R: Rule + Drop, I: Inspection + Drop> Board<R, I> {
     // One clean quarter.
     pub fn pass(&mut self) -> Result<Event, Refusal>
         ensures quarter { λ r. ⌜ quarter r (now (self .exit) .clock) (now (self .exit) .state) ≡ passedOf (R·Rule .model (now (self .entry) .rule)) (moment (now (self .entry) .clock) (now (self .entry) .state)) ⌝ }
-        ensures seen { λ _. ⌜ Pass-seen (R·Rule .model (now (self .entry) .rule)) ⌝ }
+        ensures seen { λ r. ⌜ Pass-seen (R·Rule .model (now (self .entry) .rule)) (moment (now (self .entry) .clock) (now (self .entry) .state)) (quarter r (now (self .exit) .clock) (now (self .exit) .state)) ⌝ }
         ensures kept { λ _. ⌜ (now (self .exit) .rule ≡ now (self .entry) .rule) × (now (self .exit) .inspection ≡ now (self .entry) .inspection) ⌝ }
     {
-        faults_seen(&self.rule);
+        self.clean_quarter()
+    }
+
+    // One spoiled quarter.
+    pub fn spoil(&mut self) -> Result<Event, Refusal>
+        ensures quarter { λ r. ⌜ quarter r (now (self .exit) .clock) (now (self .exit) .state) ≡ spoiledOf (R·Rule .model (now (self .entry) .rule)) (moment (now (self .entry) .clock) (now (self .entry) .state)) ⌝ }
+        ensures seen { λ r. ⌜ Spoil-seen (R·Rule .model (now (self .entry) .rule)) (moment (now (self .entry) .clock) (now (self .entry) .state)) (quarter r (now (self .exit) .clock) (now (self .exit) .state)) ⌝ }
+        ensures kept { λ _. ⌜ (now (self .exit) .rule ≡ now (self .entry) .rule) × (now (self .exit) .inspection ≡ now (self .entry) .inspection) ⌝ }
+    {
+        self.spoiled_quarter()
+    }
+
+    // The steps of a clean quarter. The state is one of the rule's, so that the rule has a next one.
+    fn clean_quarter(&mut self) -> Result<Event, Refusal>
+        ensures quarter { λ r. ⌜ quarter r (now (self .exit) .clock) (now (self .exit) .state) ≡ passedOf (R·Rule .model (now (self .entry) .rule)) (moment (now (self .entry) .clock) (now (self .entry) .state)) ⌝ }
+        ensures kept { λ _. ⌜ (now (self .exit) .rule ≡ now (self .entry) .rule) × (now (self .exit) .inspection ≡ now (self .entry) .inspection) ⌝ }
+    {
         if self.clock >= LAST {
             return Err(Refusal::ClockEnded);
         }
@@ -32,13 +42,11 @@ impl<R: Rule + Drop, I: Inspection + Drop> Board<R, I> {
         Ok(Event::Idle)
     }
 
-    // One spoiled quarter.
-    pub fn spoil(&mut self) -> Result<Event, Refusal>
+    // The steps of a spoiled quarter.
+    fn spoiled_quarter(&mut self) -> Result<Event, Refusal>
         ensures quarter { λ r. ⌜ quarter r (now (self .exit) .clock) (now (self .exit) .state) ≡ spoiledOf (R·Rule .model (now (self .entry) .rule)) (moment (now (self .entry) .clock) (now (self .entry) .state)) ⌝ }
-        ensures seen { λ _. ⌜ Spoil-seen (R·Rule .model (now (self .entry) .rule)) ⌝ }
         ensures kept { λ _. ⌜ (now (self .exit) .rule ≡ now (self .entry) .rule) × (now (self .exit) .inspection ≡ now (self .entry) .inspection) ⌝ }
     {
-        faults_seen(&self.rule);
         if self.clock >= LAST {
             return Err(Refusal::ClockEnded);
         }

@@ -1,3 +1,4 @@
+// What a board answers.
 use crate::refusal::Refusal;
 use crate::refusal::RefusalDebug;
 use crate::refusal::RefusalPartialEq;

@@ -1,3 +1,5 @@
+// Jobs, and the calls to a board.
+
 // A job to polish: its owner's ticket, the quarters of its release and its due date, and its length in quarters.
 #[derive(Clone, Copy, PartialEq, Eq, Debug)]
 pub struct Job {

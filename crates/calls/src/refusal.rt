@@ -1,3 +1,4 @@
+// Refusals, with their numbers and details.
 ghost use mathlib.Core.Path.{_≡_};
 ghost use Rattle.calls.specs.Refusals.{code as codeOf, refusal as refusalOf};
 ghost use Rattle.std.specs.declared.option.Option.the-variants.{Some};

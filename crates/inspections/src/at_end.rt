@@ -1,3 +1,4 @@
+// Inspection at the end of the run.
 ghost use Rattle.inspections.specs.Verdict.{at-end};
 use crate::inspection::Inspection;
 

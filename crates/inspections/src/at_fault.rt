@@ -1,3 +1,4 @@
+// Inspection in the quarter of the fault.
 ghost use Rattle.inspections.specs.Verdict.{at-fault};
 use crate::inspection::Inspection;
 

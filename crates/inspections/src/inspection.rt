@@ -1,3 +1,4 @@
+// What an inspection answers, and the bounds that it keeps.
 ghost use mathlib.Core.Path.{_≡_};
 ghost use Prim.Native.Nat.{ℕ};
 ghost use Rattle.inspections.specs.Verdict.{Verdict, Bounded};

@@ -1,3 +1,4 @@
+// What the two inspections answer.
 use super::*;
 use std::test::*;
 

@@ -70,11 +70,11 @@ mod tests {
             }),
             Ok(()),
         )?;
-        let late = rows.append(Row {
+        let refused = rows.append(Row {
             ticket: 12,
             quarter: 8,
         });
-        check_eq(late, Err(Refusal::ListFull))?;
+        check_eq(refused, Err(Refusal::ListFull))?;
         check_eq(
             rows.get(0),
             Some(Row {

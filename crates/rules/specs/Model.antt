@@ -34,7 +34,7 @@ pub record Laws (m : Model) : Type 0 where
   pub clean-stays : (s : ℕ) → s < m .size → m .clean s < m .size
   -- a spoiled quarter leads from a state to a state
   pub spoiled-stays : (s t : ℕ) → s < m .size → m .spoiled s ≡ Some t → t < m .size
-  -- the opening state is a state
+  -- where there are states, the opening state is one
   pub opens : 0 < m .size → m .opening < m .size
   -- a rule with no state is no rule, and its opening state reads 0
   pub closed : m .size ≡ 0 → m .opening ≡ 0

@@ -1,3 +1,4 @@
+// The rule of at most so many faults.
 ghost use mathlib.Core.Path.{_≡_};
 ghost use Rattle.rules.specs.Count.{count, Count-allows};
 use crate::rule::Rule;

@@ -1,3 +1,4 @@
+// The rule of faults so many quarters apart.
 ghost use mathlib.Core.Path.{_≡_};
 ghost use Rattle.rules.specs.Gap.{gap, Gap-allows};
 use crate::rule::Rule;

@@ -1,3 +1,4 @@
+// What a fault rule answers, and the laws that it keeps.
 ghost use mathlib.Core.Path.{_≡_};
 ghost use Rattle.rules.specs.Model.{Model, Laws, capped, after-clean, after-spoiled};
 

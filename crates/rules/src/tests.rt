@@ -1,3 +1,4 @@
+// Sizes at the limits, walks, and numbers that are no states.
 use super::*;
 use std::test::*;
 

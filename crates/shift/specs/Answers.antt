@@ -30,13 +30,16 @@ pub record Turn : Type 0 where
   pub answer : Answer
   pub after : Moment
 
+-- the answer that a quarter gives
 abbrev pub over : Result Event Refusal → Answer
 over (Ok event) = QuarterOver event
 over (Err refusal) = Refused refusal
 
+-- the answer, and the moment of a clock and a state
 abbrev pub turn : Answer → ℕ → ℕ → Turn
 turn answer clock state = record { answer = answer; after = moment clock state }
 
+-- the answer and the moment that a quarter gives
 abbrev pub quarter-turn : Quarter → Turn
 quarter-turn quarter = record { answer = over (quarter .answer); after = quarter .after }
 
@@ -44,6 +47,7 @@ quarter-turn quarter = record { answer = over (quarter .answer); after = quarter
 abbrev pub refused : Refusal → Moment → Turn
 refused refusal w = record { answer = Refused refusal; after = w }
 
+-- what a line is answered, by the call that was heard; bookings and withdrawals are not heard yet
 abbrev pub answered : Model → Moment → Result Call Refusal → Turn
 answered m w (Err refusal) = refused refusal w
 answered m w (Ok (Book place job)) = refused (Malformed 1) w

@@ -17,8 +17,11 @@ use std::io::Write;
 // So many bytes are asked for at a time.
 const CHUNK: usize = 4096;
 
+// The longest reply has two numbers of five digits, one of two, a letter, two tabs and a line feed.
+const LONGEST_REPLY: usize = 16;
+
 // Room for the replies to as many lines as a chunk can hold.
-const REPLIES: usize = 16 * CHUNK;
+const REPLIES: usize = LONGEST_REPLY * CHUNK;
 
 // The input in chunks, and the replies that are not written yet.
 #[derive(Drop)]
@@ -28,11 +31,14 @@ pub(crate) struct Console<I: Read, O: Write> {
     chunk: [u8; CHUNK],
     at: usize,
     end: usize,
+    ended: bool,
     replies: String,
+    ghost ahead: { at ≤ end },
     ghost within: { end ≤ 4096 },
 }
 
 impl<I: Read + Drop, O: Write + Drop> Console<I, O> {
+    // A console that has read nothing. It asks for all the memory that it needs.
     pub(crate) fn new(input: I, output: O, heap: Global) -> io::Result<Console<I, O>> {
         let replies = String::with_capacity(heap, REPLIES)?;
         Ok(Console {
@@ -41,6 +47,7 @@ impl<I: Read + Drop, O: Write + Drop> Console<I, O> {
             chunk: [0; CHUNK],
             at: 0,
             end: 0,
+            ended: false,
             replies,
         })
     }
@@ -52,32 +59,37 @@ impl<I: Read + Drop, O: Write + Drop> Console<I, O> {
         self.output.flush()
     }
 
-    // The next byte of the input, or none at its end. Before it waits for input it writes the replies.
-    fn next_byte(&mut self) -> io::Result<Option<u8>> {
-        if self.at >= self.end {
-            self.flush()?;
-            self.at = 0;
-            self.end = self.input.read(&mut self.chunk)?;
-            if self.end == 0 {
-                return Ok(None);
-            }
+    // More of the input, or false at its end. Before it waits for input it writes the replies.
+    fn refill(&mut self) -> io::Result<bool> {
+        self.flush()?;
+        if self.ended {
+            return Ok(false);
         }
-        let byte = self.chunk[self.at];
-        self.at += 1;
-        Ok(Some(byte))
+        let count = self.input.read(&mut self.chunk)?;
+        self.at = 0;
+        self.end = count;
+        self.ended = count == 0;
+        Ok(count > 0)
     }
 
-    // The next line, without its line feed; false at the end of the input.
+    // The next line, without its line feed, which the last line may lack; false where there is no line more.
     pub(crate) fn read_line(&mut self, line: &mut LineBuffer) -> io::Result<bool> {
         line.clear();
-        for count in 0..u64::MAX {
-            match self.next_byte()? {
-                Some(b'\n') => return Ok(true),
-                Some(byte) => line.push(byte),
-                None => return Ok(count > 0),
+        let mut begun = false;
+        for _ in 0..u64::MAX {
+            if self.at >= self.end && !self.refill()? {
+                return Ok(begun);
             }
+            match line.feed(&self.chunk[self.at..self.end]) {
+                Some(place) => {
+                    self.at += place + 1;
+                    return Ok(true);
+                }
+                None => self.at = self.end,
+            }
+            begun = true;
         }
-        Ok(true)
+        Ok(begun)
     }
 
     // The reply to the line of this number.

@@ -1,3 +1,4 @@
+// Whole shifts, from their input to their output.
 use crate::run::run;
 use std::alloc::Global;
 use std::test::*;

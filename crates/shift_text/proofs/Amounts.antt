@@ -1,10 +1,9 @@
 -- A number is no hyphen.
-use mathlib.Core.Path.{_≡_, refl, sym, ap, _∙_}
-use mathlib.Core.Bool.{true, false, cond}
+use mathlib.Core.Path.{_≡_, refl, ap, _∙_}
+use mathlib.Core.Bool.{true, false}
 use mathlib.Core.List.{List, [], _∷_}
 use Prim.Native.Nat.{ℕ, _<_}
 use native.Mathlib.Omega.{arith}
-use lib.Dec.{eqb}
 use Rattle.shift_text.proofs.Inverting.{number-some}
 use Rattle.shift_text.proofs.Spelling.{number-decimal, own}
 use Rattle.shift_text.specs.Fields.{Field, beside, first, number}
@@ -12,7 +11,6 @@ use Rattle.shift_text.specs.Openings.{amount, hyphen}
 use Rattle.std.proofs.shelf.Decimals.{digits-decimal}
 use Rattle.std.proofs.shelf.Tests.{cond-false}
 use Rattle.std.proofs.shelf.Ways.{tells}
-use Rattle.std.specs.declared.option.Option.{Option}
 use Rattle.std.specs.declared.option.Option.the-variants.{None, Some}
 use Rattle.std.specs.Options.{mapped}
 use Rattle.std.specs.shelf.Text.{allDigits}

@@ -1,14 +1,13 @@
 -- A line that is cut at 81 bytes says what the whole line says.
-use mathlib.Core.Path.{_≡_, refl, sym, ap, _∙_}
-use mathlib.Core.Bool.{cond}
+use mathlib.Core.Path.{_≡_, sym, ap, _∙_}
 use mathlib.Core.List.{List}
 use mathlib.Core.Logic.{inl, inr}
-use Prim.Native.Nat.{ℕ, _<_, _≤_}
+use Prim.Native.Nat.{ℕ, _<_}
 use native.Mathlib.Omega.{arith}
-use lib.Dec.{eqb, leb}
-use lib.ListN.{length, take, length-take}
+use lib.Dec.{leb}
+use lib.ListN.{length, length-take}
 use Rattle.shift_text.specs.Fields.{fields, first, one-byte}
-use Rattle.shift_text.specs.Lines.{at-field, by-letter, call, kept, lettered, malformed}
+use Rattle.shift_text.specs.Lines.{at-field, by-letter, call, kept, lettered}
 use Rattle.shift_text.specs.Openings.{by-letter as opening-by-letter, opening}
 use Rattle.std.proofs.shelf.Lists.{take-all}
 use Rattle.std.proofs.shelf.Tests.{cases-lt, cond-false, lt-leb}

@@ -1,21 +1,21 @@
 -- What reading one digit more makes of a number.
-use mathlib.Core.Path.{_≡_, refl, sym, ap, _∙_}
-use mathlib.Core.Logic.{_⊎_, inl, inr}
+use mathlib.Core.Path.{_≡_, sym, ap, _∙_}
+use mathlib.Core.Logic.{inl}
 use mathlib.Core.List.{List, [], _∷_, _++_, append-assoc}
-use Prim.Native.Nat.{ℕ, _+_, _-_, _*_, _/_, _%_, _^_, _<_, _≤_}
+use Prim.Native.Nat.{ℕ, _+_, _-_, _*_, _^_, _<_, _≤_}
 use native.Mathlib.Omega.{arith}
 use lib.Arith.{digits-div, digits-mod}
 use lib.ListN.{length, getD, take, drop}
 use Rattle.std.proofs.shelf.Decimals.{decimal-digit, decimal-step}
 use Rattle.std.proofs.shelf.Lists.{take-all}
 use Rattle.std.specs.Written.{decimal}
-use Rattle.shift_text.specs.Numbers.{Begins, Digit, Lengthened, Longest, NoDigit}
+use Rattle.shift_text.specs.Numbers.{Digit, Lengthened, Longest}
 
 -- what a pattern `[b, rest @ ..]` names as rest
 pub tail : (b : ℕ) (bs : List ℕ) → take (length (b ∷ bs) - 1) (drop 1 (b ∷ bs)) ≡ bs
 tail b bs = take-all (length (b ∷ bs) - 1) bs (omega arith)
 
-pub decimal-longer : (v b : ℕ) → 0 < v → v < 10000 → Digit b → decimal (v * 10 + (b - 48)) ≡ decimal v ++ (b ∷ [])
+decimal-longer : (v b : ℕ) → 0 < v → v < 10000 → Digit b → decimal (v * 10 + (b - 48)) ≡ decimal v ++ (b ∷ [])
 decimal-longer v b pos small digit =
     let under : b - 48 < 10 = omega arith in
     let big : v * 10 + (b - 48) < 2 ^ 64 = omega arith in

@@ -1,12 +1,10 @@
 -- A first line says an opening just where it is the opening's text.
 use mathlib.Core.Path.{_≡_, refl, sym, ap, subst, _∙_}
 use mathlib.Core.Bool.{Bool, true, false, cond}
-use mathlib.Core.List.{List, [], _∷_, _++_}
-use mathlib.Core.Logic.{_⊎_, inl, inr}
-use Prim.Native.Nat.{ℕ, _<_, _≤_}
+use mathlib.Core.List.{List, [], _∷_}
+use mathlib.Core.Logic.{inl, inr}
+use Prim.Native.Nat.{ℕ}
 use native.Mathlib.Omega.{arith}
-use lib.Dec.{eqb}
-use lib.ListN.{length}
 use Rattle.std.proofs.shelf.Tests.{eqb-true}
 use Rattle.std.specs.declared.option.Option.{Option}
 use Rattle.std.specs.declared.option.Option.the-variants.{None, Some}
@@ -14,7 +12,6 @@ use Rattle.std.specs.declared.result.Result.{Result}
 use Rattle.std.specs.declared.result.Result.the-variants.{Ok}
 use Rattle.std.specs.Options.{mapped}
 use Rattle.std.specs.shelf.Lists.{All}
-use Rattle.std.specs.Written.{decimal}
 use Rattle.calls.specs.declared.refusal.Refusal.{Refusal}
 use Rattle.shift_text.specs.declared.choice.FaultRule.{FaultRule}
 use Rattle.shift_text.specs.declared.choice.FaultRule.the-variants.{Both, Count, Gap}
@@ -22,7 +19,7 @@ use Rattle.shift_text.specs.declared.choice.InspectionKind.{InspectionKind}
 use Rattle.shift_text.specs.declared.choice.InspectionKind.the-variants.{AtEnd, AtFault}
 use Rattle.shift_text.specs.declared.choice.Opening.{Opening}
 use Rattle.shift_text.specs.Fields.{Field, beside, first, number}
-use Rattle.shift_text.specs.Lines.{at-field, ended, lettered, malformed}
+use Rattle.shift_text.specs.Lines.{at-field, lettered}
 use Rattle.shift_text.specs.Openings.{by-letter as opening-by-letter, amount, hyphen, inspection, kind, opened, opening, rule, with-gap}
 use Rattle.shift_text.specs.Texts.{Read, Short-amount, Writable-opening, amount-text, count-of, gap-of, letter-of, line-of, opening-text}
 use Rattle.shift_text.proofs.Amounts.{amount-decimal}

@@ -1,6 +1,6 @@
 -- The letters of events are single bytes, so that a reply is spelt as its parts say.
-use mathlib.Core.Path.{_≡_, refl, sym, ap, _∙_}
-use mathlib.Core.List.{List, [], _∷_, _++_}
+use mathlib.Core.Path.{_≡_, sym, ap, _∙_}
+use mathlib.Core.List.{[], _∷_, _++_}
 use Prim.Native.Nat.{ℕ, _<_}
 use native.Mathlib.Omega.{arith}
 use lib.Utf8.{encode}
@@ -12,7 +12,7 @@ use Rattle.shift_text.specs.declared.reply.Reply.the-variants.{Answered, Opene
 use Rattle.shift_text.specs.Replies.{Parts, event-parts, parts-line, reply-line, reply-parts}
 use Rattle.std.proofs.shelf.Text.{encode-ascii}
 use Rattle.std.specs.declared.option.Option.{Option}
-use Rattle.std.specs.declared.option.Option.the-variants.{None, Some}
+use Rattle.std.specs.declared.option.Option.the-variants.{Some}
 use Rattle.std.specs.Written.{decimal}
 
 event-ascii : (e : Event) → event-parts e .0 < 128

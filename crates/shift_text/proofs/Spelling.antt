@@ -1,16 +1,14 @@
 -- Each number has one spelling: a field writes n just where n is below 100000 and the field is n's decimal digits.
 use mathlib.Core.Path.{_≡_, refl, sym, ap, _∙_}
-use mathlib.Core.Bool.{Bool, true, false, cond, not, _&&_, _||_}
-use mathlib.Core.Logic.{_⊎_, inl, inr, ⊎-elim}
-use mathlib.Core.List.{List, [], _∷_, _++_}
-use Prim.Native.Nat.{ℕ, _+_, _-_, _*_, _^_, _<_, _≤_}
+use mathlib.Core.Bool.{Bool, true, false, cond}
+use mathlib.Core.Logic.{⊎-elim}
+use Prim.Native.Nat.{ℕ, _^_, _<_, _≤_}
 use native.Mathlib.Omega.{arith}
 use borrow.Author.Needs.{needs}
-use lib.Dec.{eqb, leb}
 use lib.ListN.{length, getD}
 use Rattle.std.proofs.shelf.Decimals.{decimal-digit, decimal-some, decimal-value, digits-decimal, first-decimal, length-decimal-le, value-decimal}
 use Rattle.std.proofs.shelf.Numerals.{Numerals, numerals-by-fold, value-short}
-use Rattle.std.proofs.shelf.Tests.{and-from, and-parts, cases-lt, cond-true, or-cases}
+use Rattle.std.proofs.shelf.Tests.{cases-lt, cond-true}
 use Rattle.std.proofs.shelf.Ways.{tells}
 use Rattle.std.specs.declared.option.Option.the-variants.{None, Some}
 use Rattle.std.specs.shelf.Text.{allDigits}

@@ -1,14 +1,12 @@
 -- The fields of a line that begins with a number.
 use mathlib.Core.Path.{_≡_, refl, sym, ap, _∙_}
-use mathlib.Core.Bool.{Bool, true, false, cond}
-use mathlib.Core.Logic.{_⊎_, inl, inr, ⊎-elim}
+use mathlib.Core.Bool.{true, false}
+use mathlib.Core.Logic.{inl, inr, ⊎-elim}
 use mathlib.Core.List.{List, [], _∷_, _++_, append-nil}
-use Prim.Native.Nat.{ℕ, _+_, _-_, _*_, _^_, _<_, _≤_}
+use Prim.Native.Nat.{ℕ, _+_, _-_, _^_, _<_, _≤_}
 use native.Mathlib.Omega.{arith}
-use borrow.Author.Needs.{needs}
-use lib.Dec.{eqb, leb}
 use lib.ListN.{length, getD, take, drop, length-append}
-use Rattle.std.proofs.shelf.Decimals.{decimal-digit, decimal-some, digits-decimal, length-decimal-le, value-decimal}
+use Rattle.std.proofs.shelf.Decimals.{decimal-digit, digits-decimal, length-decimal-le, value-decimal}
 use Rattle.std.proofs.shelf.Numerals.{value-short}
 use Rattle.std.proofs.shelf.Tests.{and-parts, cases-eq, cases-lt, ne-eqb}
 use Rattle.std.proofs.shelf.Ways.{tells}
@@ -18,7 +16,7 @@ use Rattle.std.specs.shelf.Lists.{All}
 use Rattle.std.specs.shelf.Text.{allDigits}
 use Rattle.std.specs.Text.{asciiDigit}
 use Rattle.std.specs.Written.{decimal}
-use Rattle.shift_text.specs.Fields.{Field, beside, fields, first, isNumber, left, number, onto, valueOn}
+use Rattle.shift_text.specs.Fields.{Field, beside, fields, first, left, number, onto}
 use Rattle.shift_text.specs.Numbers.{Begins, Digit, Longest, NoDigit}
 use Rattle.shift_text.proofs.Digits.{tail}
 use Rattle.shift_text.proofs.Spelling.{decimal-number, leads, number-decimal, own}
@@ -26,9 +24,6 @@ use Rattle.shift_text.proofs.Spelling.{decimal-number, leads, number-decimal, 
 -- no byte is a tab
 abbrev pub Whole : List ℕ → Type 0
 Whole f = All (λ b. b ≡ 9 → ⊥) f
-
-pub fields-tab : (bs : List ℕ) → fields (9 ∷ bs) ≡ [] ∷ fields bs
-fields-tab bs = refl
 
 pub fields-byte : (b : ℕ) (bs : List ℕ) → (b ≡ 9 → ⊥) → fields (b ∷ bs) ≡ onto b (fields bs)
 fields-byte b bs ne = simp (ne-eqb b 9 ne)
@@ -59,7 +54,7 @@ cut (b ∷ bs) =
     elim (cases-eq b 9) [ inl e ↦ record { head = []; rest = fields bs; is = simp e } | inr ne ↦ cut-byte b bs ne (cut bs) ]
 
 -- the first field of a line that begins with whole bytes begins with them
-pub head-begins : (f bs : List ℕ) → Whole f → (c : Cut bs) → fields (f ++ bs) ≡ (f ++ c .head) ∷ c .rest
+head-begins : (f bs : List ℕ) → Whole f → (c : Cut bs) → fields (f ++ bs) ≡ (f ++ c .head) ∷ c .rest
 head-begins [] bs w c = c .is
 head-begins (b ∷ f) bs w c = fields-byte b (f ++ bs) (w .0) ∙ ap (onto b) (head-begins f bs (w .1) c)
 
@@ -83,7 +78,7 @@ none-front b f no-digit = let e : asciiDigit b ≡ false = grind (arith, tells) 
 first-none : (bs : List ℕ) (f : Field) (fs : List Field) → fields bs ≡ f ∷ fs → number f ≡ None → first number (fields bs) ≡ None
 first-none bs f fs e n = ap (first number) e ∙ ap (λ o. beside o fs) n
 
-pub field-none : (bs : List ℕ) → NoDigit bs → first number (fields bs) ≡ None
+field-none : (bs : List ℕ) → NoDigit bs → first number (fields bs) ≡ None
 field-none [] no-digit = first-none [] [] [] refl none-alone
 field-none (b ∷ bs) no-digit =
     elim (cases-eq b 9) [
@@ -138,7 +133,7 @@ some-none None h = refl
 some-none (Some n) h = absurd (h n refl)
 
 -- a field that goes on behind its longest number is wrong
-pub field-wrong : (v b : ℕ) (bs : List ℕ) → v < 100000 → (b ≡ 9 → ⊥) → (0 < v → v < 10000 → NoDigit (b ∷ bs)) → first number (fields (decimal v ++ (b ∷ bs))) ≡ None
+field-wrong : (v b : ℕ) (bs : List ℕ) → v < 100000 → (b ≡ 9 → ⊥) → (0 < v → v < 10000 → NoDigit (b ∷ bs)) → first number (fields (decimal v ++ (b ∷ bs))) ≡ None
 field-wrong v b bs small ne ends =
     let c = cut bs in
     let f = decimal v ++ (b ∷ c .head) in
@@ -146,11 +141,11 @@ field-wrong v b bs small ne ends =
     (some-none (number f) (λ n e. let d = decimal-number f n e in overlong v b n (c .head) small ends (d .0) (d .1)))
 
 -- a field that ends with the line, and one that ends at a tab
-pub field-last : (v : ℕ) → v < 100000 → first number (fields (decimal v)) ≡ Some (v, left None)
+field-last : (v : ℕ) → v < 100000 → first number (fields (decimal v)) ≡ Some (v, left None)
 field-last v small =
     ap (first number) (fields-alone (decimal v) (whole-decimal v small)) ∙ ap (λ o. beside o []) (number-decimal v small)
 
-pub field-more : (v : ℕ) (bs : List ℕ) → v < 100000 → first number (fields (decimal v ++ (9 ∷ bs))) ≡ Some (v, left (Some bs))
+field-more : (v : ℕ) (bs : List ℕ) → v < 100000 → first number (fields (decimal v ++ (9 ∷ bs))) ≡ Some (v, left (Some bs))
 field-more v bs small =
     ap (first number) (fields-more (decimal v) bs (whole-decimal v small)) ∙ ap (λ o. beside o (fields bs)) (number-decimal v small)
 

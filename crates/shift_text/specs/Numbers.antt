@@ -1,10 +1,11 @@
--- Numbers in a line of text: one to five digits, with no leading zero but in 0 itself. Each number has one spelling.
+-- Numbers in a line of text: one to five digits, with no leading zero but in 0 itself.
 use mathlib.Core.Path.{_≡_}
 use mathlib.Core.Logic.{_⊎_}
 use mathlib.Core.List.{List, [], _∷_, _++_}
 use Prim.Native.Nat.{ℕ, _<_, _≤_}
 use Rattle.std.specs.Written.{decimal}
 
+-- the byte is a decimal digit
 abbrev pub Digit : ℕ → Type 0
 Digit b = (48 ≤ b) × (b ≤ 57)
 

@@ -42,6 +42,7 @@ with-gap count (Some p) = beside (rule count (p .0)) (p .1)
 abbrev pub kind : ℕ → Option InspectionKind
 kind letter = cond (eqb letter 72) (Some AtEnd) (cond (eqb letter 69) (Some AtFault) None)
 
+-- the inspection that a field names: its letter alone
 abbrev pub inspection : Field → Option InspectionKind
 inspection [] = None
 inspection (letter ∷ []) = kind letter

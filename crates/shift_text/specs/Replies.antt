@@ -25,12 +25,14 @@ pub record Parts : Type 0 where
   pub letter : Option ℕ
   pub value : ℕ
 
+-- of an answer of the board
 abbrev pub answer-parts : Answer → Parts
 answer-parts (Taken worst) = record { code = 0; letter = None; value = worst }
 answer-parts Withdrawn = record { code = 0; letter = None; value = 0 }
 answer-parts (Quarter event) = record { code = 0; letter = Some (event-parts event .0); value = event-parts event .1 }
 answer-parts (Refused refusal) = record { code = refusal-code refusal .0; letter = None; value = refusal-code refusal .1 }
 
+-- and of any reply
 abbrev pub reply-parts : Reply → Parts
 reply-parts (Opened size) = record { code = 0; letter = None; value = size }
 reply-parts (Answered answer) = answer-parts answer
@@ -40,6 +42,7 @@ abbrev pub detail : Option ℕ → ℕ → List ℕ
 detail None value = decimal value
 detail (Some letter) value = letter ∷ decimal value
 
+-- the parts as a line
 abbrev pub parts-line : ℕ → Parts → List ℕ
 parts-line number parts = decimal number ++ (9 ∷ (decimal (parts .code) ++ (9 ∷ (detail (parts .letter) (parts .value) ++ (10 ∷ [])))))
 

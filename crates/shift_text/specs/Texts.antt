@@ -48,16 +48,18 @@ abbrev pub amount-text : Option ℕ → Field
 amount-text None = 45 ∷ []
 amount-text (Some n) = decimal n
 
+-- a number that is there has at most five digits
 abbrev pub Short-amount : Option ℕ → Type 0
 Short-amount None = Unit {0}
 Short-amount (Some n) = n < 100000
 
--- the count of a rule, and its gap
+-- the count of a rule
 abbrev pub count-of : FaultRule → Option ℕ
 count-of (Count count) = Some count
 count-of (Gap gap) = None
 count-of (Both count gap) = Some count
 
+-- the gap of a rule
 abbrev pub gap-of : FaultRule → Option ℕ
 gap-of (Count count) = None
 gap-of (Gap gap) = Some gap
@@ -73,6 +75,7 @@ abbrev pub opening-text : Opening → List ℕ
 opening-text o =
     line-of 79 (amount-text (count-of (o .rule)) ∷ amount-text (gap-of (o .rule)) ∷ (letter-of (o .inspection) ∷ []) ∷ [])
 
+-- the numbers of the opening have at most five digits
 abbrev pub Writable-opening : Opening → Type 0
 Writable-opening o = Short-amount (count-of (o .rule)) × Short-amount (gap-of (o .rule))
 

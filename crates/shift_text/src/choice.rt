@@ -1,3 +1,5 @@
+// What the first line of a shift chooses.
+
 // The fault rule of a shift.
 #[derive(Clone, Copy, PartialEq, Eq, Debug)]
 pub enum FaultRule {

@@ -2,7 +2,6 @@
 ghost use Rattle.shift_text.specs.Fields.{Taken, first, left, number as numberOf, one-byte};
 ghost use Rattle.std.specs.Options.{mapped};
 ghost use denote.Ref.{now};
-ghost use mathlib.Core.Path.{_≡_};
 use crate::numbers::NO_NUMBER;
 use crate::numbers::number;
 

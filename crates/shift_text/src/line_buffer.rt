@@ -1,7 +1,8 @@
 // A line that comes byte by byte.
 ghost use Prim.Native.Nat.{_≤_};
-ghost use Rattle.shift_text.specs.Buffers.{Holds, Push-holds, buffer, content, pushed};
-ghost use mathlib.Core.List.{[]};
+ghost use Rattle.shift_text.specs.Buffers.{Fed, Goes-on, Holds, buffer, content, pushed};
+ghost use lib.ListN.{length};
+ghost use mathlib.Core.List.{[], _∷_};
 ghost use mathlib.Core.Path.{_≡_};
 use crate::lines::LONGEST;
 
@@ -13,13 +14,9 @@ const KEPT: usize = LONGEST + 1;
 pub struct LineBuffer {
     bytes: [u8; KEPT],
     used: usize,
+    ghost room: { length bytes ≡ 81 },
     ghost within: { used ≤ 81 },
 }
-
-// Does nothing: its contract is that a buffer keeps what is to be kept of its line.
-fn push_holds()
-    ensures { λ _. ⌜ Push-holds ⌝ }
-{}
 
 impl LineBuffer {
     // The empty line.
@@ -41,19 +38,38 @@ impl LineBuffer {
 
     // One byte more.
     pub fn push(&mut self, byte: u8)
-        ensures after { λ _. ⌜ buffer (now (self .exit) .bytes) (now (self .exit) .used) ≡ pushed (buffer (now (self .entry) .bytes) (now (self .entry) .used)) byte ⌝ }
-        ensures holds { λ _. ⌜ Push-holds ⌝ }
+        ensures { λ _. ⌜ Goes-on (buffer (now (self .entry) .bytes) (now (self .entry) .used)) (buffer (now (self .exit) .bytes) (now (self .exit) .used)) (byte ∷ []) ⌝ }
     {
-        push_holds();
+        self.store(byte)
+    }
+
+    // The byte goes behind the bytes in use, where there is room.
+    fn store(&mut self, byte: u8)
+        ensures { λ _. ⌜ buffer (now (self .exit) .bytes) (now (self .exit) .used) ≡ pushed (buffer (now (self .entry) .bytes) (now (self .entry) .used)) byte ⌝ }
+    {
         if self.used < KEPT {
             self.bytes[self.used] = byte;
             self.used += 1;
         }
     }
 
+    // Takes the bytes of the chunk before its first line feed, and answers the place of that line feed.
+    pub fn feed(&mut self, chunk: &[u8]) -> Option<usize>
+        ensures { λ r. ⌜ Fed (buffer (now (self .entry) .bytes) (now (self .entry) .used)) (buffer (now (self .exit) .bytes) (now (self .exit) .used)) (now (chunk .entry)) r ⌝ }
+    {
+        for (i, byte) in chunk.iter().enumerate() {
+            if *byte == b'\n' {
+                return Some(i);
+            }
+            self.push(*byte);
+        }
+        None
+    }
+
     // The next line begins.
     pub fn clear(&mut self)
-        ensures { λ _. ⌜ Holds (buffer (now (self .exit) .bytes) (now (self .exit) .used)) [] ⌝ }
+        ensures after { λ _. ⌜ buffer (now (self .exit) .bytes) (now (self .exit) .used) ≡ buffer (now (self .entry) .bytes) 0 ⌝ }
+        ensures holds { λ _. ⌜ Holds (buffer (now (self .exit) .bytes) (now (self .exit) .used)) [] ⌝ }
     {
         self.used = 0;
     }

@@ -1,3 +1,4 @@
+// What a line is answered.
 use calls::Answer;
 use calls::answer::AnswerDebug;
 use calls::answer::AnswerPartialEq;

@@ -1,3 +1,4 @@
+// Lines that are read, lines that are malformed, and lines that answer.
 use super::*;
 use crate::choice::OpeningDebug as _;
 use crate::choice::OpeningPartialEq as _;
