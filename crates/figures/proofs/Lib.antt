@@ -1,0 +1,4 @@
+pub mod Fronts
+pub mod Unmoved
+pub mod Checks
+pub mod Table

@@ -1,0 +1,11 @@
+pub mod Booking
+pub mod Withdrawing
+pub mod Quarters
+pub mod Sound
+pub mod OneAnswer
+pub mod LateExactly
+pub mod Tracks
+pub mod Clock
+pub mod Staying
+pub mod Dates
+pub mod Answered

@@ -1,0 +1,4 @@
+pub mod Log
+pub mod Fates
+pub mod Sound
+pub mod Theorems

@@ -1,0 +1,13 @@
+pub mod States
+pub mod Completion
+pub mod FirstClear
+pub mod Lockstep
+pub mod Following
+pub mod Lists
+pub mod Steps
+pub mod Bridge
+pub mod Busy
+pub mod Planned
+pub mod Decides
+pub mod Times
+pub mod Removing

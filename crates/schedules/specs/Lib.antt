@@ -1,0 +1,9 @@
+pub mod Lists
+pub mod Runs
+pub mod Clear
+pub mod World
+pub mod Walk
+pub mod Plans
+pub mod Foreseen
+pub mod Ready
+pub mod Theorems
