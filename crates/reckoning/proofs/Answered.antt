@@ -25,7 +25,7 @@ use Rattle.calls.specs.declared.answer.Answer.the-variants.{Taken, Refused}
 use Rattle.schedules.specs.Ready.{Right}
 use Rattle.reckoning.specs.Sound.{Sound}
 use Rattle.schedules.specs.Foreseen.{foreseen}
-use Rattle.reckoning.specs.Theorems.{Every-call-answered, calls, Any-calls}
+use Rattle.reckoning.specs.Theorems.{Every-call-answered, calls, Any-calls, with-rooms}
 use Rattle.schedules.proofs.Lists.{pairs-at}
 use Rattle.schedules.proofs.Planned.{allowed-increasing, least-unique, right-ready, plan-finishes, earliest-plan}
 use Rattle.schedules.proofs.Decides.{nobody}
@@ -39,11 +39,6 @@ use Rattle.calls.specs.declared.refusal.Refusal.the-variants.{Late}
 
 abbrev Decided : Type 0 → Type 0
 Decided P = P ⊎ (P → ⊥)
-
-both-decided : (P Q : Type 0) → Decided P → Decided Q → Decided (P × Q)
-both-decided P Q (inl p) (inl q) = inl (p, q)
-both-decided P Q (inl p) (inr n) = inr (λ r. n (r .1))
-both-decided P Q (inr n) d = inr (λ r. n (r .0))
 
 le-decided : (a b : ℕ) → Decided (a ≤ b)
 le-decided a b = elim (cases-lt b a) [ inl over ↦ inr (λ h. omega arith) | inr by ↦ inl by ]
@@ -280,5 +275,5 @@ sound-log m laws V bounded some (call ∷ made) =
 
 pub any-calls : (m : Model) → Laws m → Any-calls m
 any-calls m laws V bounded some made =
-    let (log, w, as-made, led, sound) = sound-log m laws V bounded some made in
+    let (log, w, as-made, led, sound) = sound-log m laws V bounded some (with-rooms made) in
     (log, w, as-made, led)

@@ -90,7 +90,7 @@ module _ (m : Model) (laws : Laws m) (V : Verdict) (bounded : Bounded V) (w : Wo
       let i = allowed-increasing m (w .state) (w .clock) f a in
       let ready = right-ready (with-waiting w jobs) right in
       let times = foreseen V (w .clock) (w .machine) (timed jobs first) f in
-      let never = none-all (Can-be-late m V (planned w jobs first)) xs (λ fails. some (decides m laws V bounded w jobs small right .1 fails)) in
+      let never = none-all (Can-be-late m V (planned w jobs first)) xs (λ fails. some (decides m laws V bounded w jobs small right .0 .1 fails)) in
       let in-time = pairs-with (λ j q. Finish V f (planned w jobs first) (j .ticket) q) In-time (λ j. Can-be-late m V (planned w jobs first) j → ⊥)
       (λ j q ends not. elim (cases-lt (j .due) q) [ inl late ↦ absurd (not (f, a, (q, ends, late))) | inr by ↦ by ])
       xs times (plan-finishes V bounded w jobs first ready (earliest-plan (w .clock) jobs) f i) never in
@@ -107,6 +107,6 @@ decides-bookings m laws V bounded w room place j sound (limits, new, few, near, 
           let fails = any-map (λ x. (x .ticket ≡ t) × Can-be-late m V (planned w jobs first) x) (Can-be-late m V (planned w jobs first)) xs
           (all-by (λ x. (x .ticket ≡ t) × Can-be-late m V (planned w jobs first) x → Can-be-late m V (planned w jobs first) x) (λ x p. p .1) xs)
           (first-any (Can-be-late m V (planned w jobs first)) (λ x. x .ticket ≡ t) xs late) in
-          inr (λ no. no limits, inr (new, inr (λ full. omega arith, inr (λ above. omega arith, inr (λ short. omega arith, inl (d .1 fails, (t, late, (refl, refl)))))))),
-      λ c holds worst. inr (λ no. no limits, inr (new, inr (λ full. omega arith, inr (λ above. omega arith, inr (λ short. omega arith, inr (d .0 holds, (c, worst, refl, refl))))))),
+          inr (λ no. no limits, inr (new, inr (λ full. omega arith, inr (λ above. omega arith, inr (λ short. omega arith, inl (d .0 .1 fails, (t, late, (refl, refl)))))))),
+      λ c holds worst. inr (λ no. no limits, inr (new, inr (λ full. omega arith, inr (λ above. omega arith, inr (λ short. omega arith, inr (λ every. holds (d .0 .0 every), (c, worst, refl, refl))))))),
     )

@@ -1,4 +1,4 @@
--- A booking is Refused for lateness exactly where every plan fails.
+-- A booking is refused for lateness exactly where every plan fails.
 use mathlib.Core.Path.{_≡_, subst}
 use mathlib.Core.Logic.{inl, inr}
 use mathlib.Core.List.{List, [], _∷_, _++_}
@@ -47,7 +47,7 @@ module _ (m : Model) (laws : Laws m) (V : Verdict) (bounded : Bounded V) where
         (λ _. (t, is), λ _. every),
         (λ some. absurd (some every), λ (c, took). absurd (refused-not-taken answer (Late t) c is took)),
         λ s as-said starts plan.
-            subst (Fails-for m V v jobs starts) (same-ticket answer t s is as-said) (decides m laws V bounded v jobs (sound .known) right .2 t late starts plan),
+            subst (Fails-for m V v jobs starts) (same-ticket answer t s is as-said) (decides m laws V bounded v jobs (sound .known) right .1 t late starts plan),
       )
   exactly v v′ room place j answer sound (limits, new, few, near, table) (inr (_, inr (_, inr (_, inr (_, inr (_, inr (some, (c, _, is, _)))))))) = (
     (λ every. absurd (some every), λ (t, as-said). absurd (refused-not-taken answer (Late t) c as-said is)),

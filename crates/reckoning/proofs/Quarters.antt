@@ -64,7 +64,7 @@ module _ (V : Verdict) (bounded : Bounded V) (k : Kind) (w : World) (ready : Rea
         subst (Pairs In-time (j ∷ board after)) times q .1
   ]
 
--- a list that is allowed after the quarter, with the quarter itself where it is Spoiled
+-- a list that is allowed after the quarter, with the quarter itself where it is spoiled
 pub allowed-before : (m : Model) (k : Kind) (s s′ c : ℕ) → c < 4096 → ((k ≡ Clean) × (s′ ≡ m .clean s)) ⊎ ((k ≡ Spoiled) × (m .spoiled s ≡ Some s′)) →
     (f : List ℕ) → Allowed m s′ (suc c) f → Allowed m s c (shown k c f)
 allowed-before m k s s′ c early (inl (kind, is)) f a =

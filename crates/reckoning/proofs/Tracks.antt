@@ -1,4 +1,4 @@
--- One job through one quarter: whether it is Finished, and how far its run has come.
+-- One job through one quarter: whether it is finished, and how far its run has come.
 use mathlib.Core.Path.{_≡_, refl, sym, ap, ap₂, subst⁻¹, _∙_}
 use mathlib.Core.Logic.{_⊎_, inl, inr}
 use mathlib.Core.List.{List, [], _∷_, _++_}
@@ -21,7 +21,7 @@ use Rattle.calls.specs.declared.answer.Event.the-variants.{Idle, Running, Again
 use Rattle.schedules.specs.World.{begun, started, left-waiting, struck, run-after, event-after, machine-after, event-of, on-machine, Distinct}
 use Rattle.schedules.proofs.Steps.{running-goes-on, again-goes-on, idle-goes-on}
 
--- a run that is not hit: its quarters were all Clean
+-- a run that is not hit: its quarters were all clean
 abbrev Clean-so-far : ℕ → ℕ → List (Kind × Event) → Option ℕ → Type 0
 Clean-so-far t gone quarters None = take gone quarters ≡ replicate gone (Clean, Running t)
 Clean-so-far t gone quarters (Some h) = Unit {0}
@@ -34,7 +34,7 @@ Progress j quarters (Some r) = r .job .ticket ≡ j .ticket → Clean-so-far (j 
 abbrev pub On : Job → List Job → Type 0
 On j js = Any (λ k. k ≡ j) js
 
--- after a quarter of the kind the job is on the board still, or it was Finished by a whole Clean run
+-- after a quarter of the kind the job is on the board still, or it was finished by a whole clean run
 abbrev pub Tracked : Job → List (Kind × Event) → Kind → Option Run → Event → List Job → Type 0
 Tracked j quarters k machine event ws =
     (On j (on-machine machine ++ ws) × (event ≡ Finished (j .ticket) → ⊥) × Progress j ((k, event) ∷ quarters) machine)
@@ -82,7 +82,7 @@ whole j x gone quarters is up so-far =
     ap (λ n. take n ((Clean, Finished (j .ticket)) ∷ quarters)) length-is
     ∙ ap (λ l. (Clean, Finished (j .ticket)) ∷ l) (so-far (ap (λ y. y .ticket) is) ∙ ap (λ n. replicate n (Clean, Running (j .ticket))) rest)
 
--- a run that is not hit, in a Clean quarter
+-- a run that is not hit, in a clean quarter
 clean-tracks : (j x : Job) (gone : ℕ) (ws : List Job) (quarters : List (Kind × Event)) → On j (x ∷ ws) → Distinct (x ∷ ws) →
     (x .ticket ≡ j .ticket → take gone quarters ≡ replicate gone (Clean, Running (j .ticket))) →
     Tracked j quarters Clean (run-after x (suc gone) None) (event-after x (suc gone) None) ws

@@ -1,78 +1,67 @@
--- The board without one of the waiting jobs.
-use mathlib.Core.Path.{ap}
+-- A board without one of its waiting jobs: no other job finishes later, so all are in time.
+use mathlib.Core.List.{List}
 use mathlib.Core.Logic.{inl, inr}
-use mathlib.Core.List.{List, _++_}
-use Prim.Native.Nat.{ℕ, zero, suc, _<_, _≤_}
+use mathlib.Core.Path.{_≡_}
+use Prim.Native.Nat.{ℕ, _<_, _≤_}
 use native.Mathlib.Omega.{arith}
 use lib.ListN.{length, getD}
-use Rattle.std.specs.declared.option.Option.{Option}
-use Rattle.std.specs.declared.option.Option.the-variants.{Some, None}
-use Rattle.std.specs.shelf.Lists.{All}
-use Rattle.std.proofs.shelf.Elements.{all-getD, all-from-getD}
-use Rattle.rules.specs.Model.{Model, Laws}
-use Rattle.rules.specs.Faults.{Allowed}
-use Rattle.inspections.specs.Verdict.{Verdict, Bounded}
-use Rattle.schedules.specs.Runs.{finishes}
-use Rattle.schedules.proofs.Following.{kept}
-use Rattle.schedules.specs.Lists.{Pairs}
-use Rattle.schedules.specs.declared.run.Run.{Run}
-use Rattle.schedules.specs.World.{World, on-machine, board, Within-limits, Run-right, with-waiting, without}
-use Rattle.schedules.specs.Walk.{Finish, On-time}
+use Rattle.calls.specs.declared.call.Job.{Job}
+use Rattle.inspections.specs.Verdict.{Bounded, Verdict}
 use Rattle.reckoning.specs.Sound.{Sound}
-use Rattle.schedules.specs.Foreseen.{slots, free, foreseen}
-use Rattle.schedules.proofs.Removing.{without-placed, withdrawn-right}
-use Rattle.schedules.proofs.Lists.{pairs-at}
+use Rattle.reckoning.specs.Theorems.{Not-delayed, Withdrawing}
+use Rattle.rules.specs.Faults.{Allowed}
+use Rattle.rules.specs.Model.{Laws, Model}
 use Rattle.schedules.proofs.Bridge.{bridge}
-use Rattle.schedules.proofs.Busy.{busy-at}
-use Rattle.schedules.proofs.Planned.{allowed-increasing, right-ready}
-use Rattle.schedules.proofs.Decides.{nobody, length-slots}
-use Rattle.schedules.proofs.Times.{In-time, times-of, times-in-time}
+use Rattle.schedules.proofs.Decides.{nobody}
+use Rattle.schedules.proofs.Lists.{pairs-at}
+use Rattle.schedules.proofs.Planned.{allowed-increasing, least-unique, right-ready}
+use Rattle.schedules.proofs.Removing.{removing, withdrawn-all, withdrawn-right}
+use Rattle.schedules.proofs.Times.{times-of}
+use Rattle.schedules.specs.Theorems.{Removed}
+use Rattle.schedules.specs.Walk.{Finish, Gives, On-time}
+use Rattle.schedules.specs.World.{Within-limits, World, board, with-waiting, without}
+use Rattle.std.proofs.shelf.Elements.{all-from-getD, all-getD}
+use Rattle.std.specs.shelf.Lists.{All}
 
 module _ (m : Model) (laws : Laws m) (V : Verdict) (bounded : Bounded V) (w : World) (t : ℕ) (sound : Sound m V w) where
   abbrev after : World
   after = with-waiting w (without t (w .waiting))
 
-  -- job i of the board without it is in time, as it was with it
-  in-time-at : (machine : Option Run) → Run-right (w .clock) machine →
-      All Within-limits (on-machine machine ++ w .waiting) →
-      ((f : List ℕ) → Allowed m (w .state) (w .clock) f → Pairs In-time (on-machine machine ++ w .waiting) (foreseen V (w .clock) machine (w .waiting) f)) →
-      (f : List ℕ) → Allowed m (w .state) (w .clock) f → (i : ℕ) → i < length (on-machine machine ++ without t (w .waiting)) →
-      getD (foreseen V (w .clock) machine (without t (w .waiting)) f) i 0 ≤ getD (on-machine machine ++ without t (w .waiting)) i nobody .due
-  in-time-at None right limits held f a i h =
-      let ls = without t (w .waiting) in
-      let ws = w .waiting in
-      let p = without-placed t ws i h in
-      let d = p .place in
-      let found = busy-at m laws V bounded (w .state) (w .clock) (sound .known) None right (slots ls) (slots ws) i d
-      (rw (length-slots ls) h) (rw (length-slots ws) (p .within)) (p .outlasts) f a in
-      let g = found .0 in
-      let by = pairs-at In-time ws (foreseen V (w .clock) None ws g) d nobody 0 (p .within) (held g (found .1)) in
-      let due = all-getD Within-limits ws d nobody (p .within) limits .3 in
-      let same = ap (λ j. j .due) (p .same) in
-      elim (found .2) [ inl no-later ↦ omega arith | inr past ↦ omega arith ]
-  in-time-at (Some r) right limits held f a zero h = held f a .0
-  in-time-at (Some r) right limits held f a (suc b) h =
-      let ls = without t (w .waiting) in
-      let ws = w .waiting in
-      let within : b < length ls = omega arith in
-      let p = without-placed t ws b within in
-      let d = p .place in
-      let found = busy-at m laws V bounded (w .state) (w .clock) (sound .known) (Some r) right (slots ls) (slots ws) b d
-      (rw (length-slots ls) within) (rw (length-slots ws) (p .within)) (p .outlasts) f a in
-      let g = found .0 in
-      let by = pairs-at In-time ws (finishes V (free V (w .clock) (Some r) g) (slots ws) g) d nobody 0 (p .within) (held g (found .1) .1) in
-      let due = all-getD Within-limits ws d nobody (p .within) (limits .1) .3 in
-      let same = ap (λ j. j .due) (p .same) in
-      elim (found .2) [ inl no-later ↦ omega arith | inr past ↦ omega arith ]
+  -- the job finishes no later than it may with the other job there, and that is in time
+  abbrev In-time-still : Job → Type 0
+  In-time-still j =
+      (f : List ℕ) → Allowed m (w .state) (w .clock) f → (q : ℕ) → Finish V f after (j .ticket) q →
+      (g : List ℕ) × Allowed m (w .state) (w .clock) g × (r : ℕ) × Finish V g w (j .ticket) r × (q ≤ r) × (r ≤ j .due)
+
+  still : (j : Job) → Removed m V w after j → Within-limits j → ((g : List ℕ) → Allowed m (w .state) (w .clock) g → On-time V g w j) → In-time-still j
+  still j removed limits on-time f a q ends =
+      let (g, b, r, there, late) = removed f a q ends in
+      let (n, there′, by) = on-time g b in
+      let same : r ≡ n = least-unique (Gives V g (w .clock) (w .machine) (w .waiting) (j .ticket)) r n there there′ in
+      let due = limits .3 in
+      (g, b, r, there, elim late [ inl no-later ↦ no-later | inr past ↦ absurd (omega arith) ], omega arith)
+
+  still-at : (i : ℕ) → i < length (board after) → In-time-still (getD (board after) i nobody)
+  still-at i h =
+      still (getD (board after) i nobody) (all-getD (Removed m V w after) (board after) i nobody h (removing m laws V bounded w (sound .known) (sound .right) t))
+      (all-getD Within-limits (board after) i nobody h (withdrawn-all Within-limits (w .machine) t (w .waiting) (sound .right .limits)))
+      (λ g b. all-getD (On-time V g w) (board after) i nobody h (withdrawn-all (On-time V g w) (w .machine) t (w .waiting) (sound .kept g b)))
 
   pub withdrawn-kept : (f : List ℕ) → Allowed m (w .state) (w .clock) f → All (On-time V f after) (board after)
   withdrawn-kept f a =
-      let i = allowed-increasing m (w .state) (w .clock) f a in
-      let right = withdrawn-right w t (sound .right) in
-      let xs = board after in
-      all-from-getD (On-time V f after) xs nobody (λ n h. (
-        getD (times-of V after f) n 0,
-        pairs-at (λ j q. Finish V f after (j .ticket) q) xs (times-of V after f) n nobody 0 h (bridge V bounded after (right-ready after right) f i),
-        in-time-at (w .machine) (right .run) (sound .right .limits)
-            (λ g b. times-in-time V bounded w (right-ready w (sound .right)) g (allowed-increasing m (w .state) (w .clock) g b) (sound .kept g b)) f a n h,
-      ))
+      all-from-getD (On-time V f after) (board after) nobody (λ i h.
+      let increasing = allowed-increasing m (w .state) (w .clock) f a in
+      let q = getD (times-of V after f) i 0 in
+      let ends = pairs-at (λ j n. Finish V f after (j .ticket) n) (board after) (times-of V after f) i nobody 0 h
+      (bridge V bounded after (right-ready after (withdrawn-right w t (sound .right))) f increasing) in
+      let (g, b, r, there, no-later, by) = still-at i h f a q ends in
+      (q, ends, omega arith))
+
+  not-delayed : All (Not-delayed m V w after) (board after)
+  not-delayed =
+      all-from-getD (Not-delayed m V w after) (board after) nobody (λ i h f a q ends.
+      let (g, b, r, there, no-later, by) = still-at i h f a q ends in
+      (g, b, r, there, no-later))
+
+pub withdrawing : (m : Model) → Laws m → Withdrawing m
+withdrawing m laws V bounded w sound t = not-delayed m laws V bounded w t sound

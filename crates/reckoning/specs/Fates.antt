@@ -52,7 +52,7 @@ finishing j = record { call = pass; answer = Quarter (Finished (j .ticket)) }
 abbrev pub Left-by : Job → Entry → List Entry → List Entry → Type 0
 Left-by j e before later = ((after : List Entry) × (later ≡ after ++ (e ∷ before))) × All (λ x. Leaves (j .ticket) x → ⊥) before
 
--- the last quarters, as many as the job is long, are Clean ones of one run that ends with the job Finished
+-- the last quarters, as many as the job is long, are clean ones of one run that ends with the job finished
 abbrev pub Whole-run : Job → List Entry → Type 0
 Whole-run j log = take (j .length) (quarters log) ≡ (Clean, Finished (j .ticket)) ∷ replicate (j .length - 1) (Clean, Running (j .ticket))
 
@@ -63,7 +63,7 @@ Still-there j later w = Any (λ k. k ≡ j) (board w) × All (λ x. Leaves (j .t
 abbrev pub Was-withdrawn : Job → List Entry → Type 0
 Was-withdrawn j later = (before : List Entry) × Left-by j (withdrawal j) before later
 
--- not after its due quarter, by a whole run in Clean quarters after the booking
+-- not after its due quarter, by a whole run in clean quarters after the booking
 abbrev pub Was-finished : Job → List Entry → List Entry → Type 0
 Was-finished j later earlier =
     (before : List Entry) × Left-by j (finishing j) before later × Whole-run j (finishing j ∷ before)

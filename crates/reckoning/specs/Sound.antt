@@ -10,6 +10,7 @@ use Rattle.schedules.specs.Walk.{On-time}
 use Rattle.schedules.specs.World.{World, board}
 use Rattle.std.specs.shelf.Lists.{All}
 
+-- A world as every log leads to.
 pub record Sound (m : Model) (V : Verdict) (w : World) : Type 0 where
   -- the state is one of the rule's
   pub known : w .state < m .size

@@ -1,16 +1,19 @@
 -- The statements about logs.
 use mathlib.Core.Path.{_≡_}
 use mathlib.Core.Logic.{_↔_}
-use mathlib.Core.List.{List, [], _∷_, _++_}
+use mathlib.Core.List.{map, List, [], _∷_, _++_}
 use Prim.Native.Nat.{ℕ, _<_, _≤_}
 use lib.ListN.{length}
 use Rattle.std.specs.shelf.Lists.{All}
 use Rattle.rules.specs.Model.{Model}
 use Rattle.inspections.specs.Verdict.{Verdict, Bounded}
+use Rattle.calls.specs.declared.call.Call.{Call}
 use Rattle.calls.specs.declared.call.Job.{Job}
-use Rattle.schedules.specs.World.{World, board, Within-limits, with-waiting}
+use Rattle.rules.specs.Faults.{Allowed}
+use Rattle.schedules.specs.Walk.{Finish}
+use Rattle.schedules.specs.World.{World, board, Within-limits, with-waiting, without}
 use Rattle.schedules.specs.Plans.{Plan, earliest, Fails, Every-plan-fails, Fails-for, First-late, Worst, proposed}
-use Rattle.reckoning.specs.Log.{Asked, book, Has-ticket, Reckons, Entry, Led}
+use Rattle.reckoning.specs.Log.{Asked, asked, book, Has-ticket, Reckons, Entry, Led}
 use Rattle.calls.specs.declared.answer.Answer.{Answer}
 use Rattle.calls.specs.declared.answer.Answer.the-variants.{Taken, Refused}
 use Rattle.reckoning.specs.Sound.{Sound}
@@ -60,6 +63,18 @@ abbrev pub Decides-bookings : Model → Type 0
 Decides-bookings m =
     (V : Verdict) → Bounded V → (w : World) (room place : ℕ) (j : Job) → Sound m V w → No-other-fault w room place j → Meets-reckoning m V w room place j (proposed place j (w .waiting))
 
+-- whatever finish q an allowed list brings the job in the world after, some allowed list brings it one that is not earlier in the world before
+abbrev pub Not-delayed : Model → Verdict → World → World → Job → Type 0
+Not-delayed m V before after j =
+    (f : List ℕ) → Allowed m (after .state) (after .clock) f → (q : ℕ) → Finish V f after (j .ticket) q →
+    (g : List ℕ) × Allowed m (before .state) (before .clock) g × (r : ℕ) × Finish V g before (j .ticket) r × (q ≤ r)
+
+-- Withdrawing a job from a sound board brings no other job's worst finish later.
+abbrev pub Withdrawing : Model → Type 0
+Withdrawing m =
+    (V : Verdict) → Bounded V → (w : World) → Sound m V w → (t : ℕ) →
+    All (Not-delayed m V w (with-waiting w (without t (w .waiting)))) (board (with-waiting w (without t (w .waiting))))
+
 -- There is just one answer to each call, and one world that it leads to.
 abbrev pub One-answer : Model → Type 0
 One-answer m =
@@ -78,6 +93,11 @@ abbrev pub calls : List Entry → List Asked
 calls [] = []
 calls (e ∷ log) = e .call ∷ calls log
 
+-- the calls, each made with a worktable of its room, the newest first
+abbrev pub with-rooms : List (ℕ × Call) → List Asked
+with-rooms made = map (λ c. asked (c .0) (c .1)) made
+
 -- Any list of calls has a log.
 abbrev pub Any-calls : Model → Type 0
-Any-calls m = (V : Verdict) → Bounded V → 0 < m .size → (made : List Asked) → (log : List Entry) × (w : World) × (calls log ≡ made) × Led m V log w
+Any-calls m =
+    (V : Verdict) → Bounded V → 0 < m .size → (made : List (ℕ × Call)) → (log : List Entry) × (w : World) × (calls log ≡ with-rooms made) × Led m V log w

@@ -6,3 +6,4 @@ pub use theorems::earliest_plan_decides;
 pub use theorems::every_log_is_sound;
 pub use theorems::late_exactly;
 pub use theorems::one_answer;
+pub use theorems::withdrawing_never_delays;

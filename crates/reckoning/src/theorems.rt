@@ -1,5 +1,5 @@
 // What holds of logs. These functions do nothing: their contracts are the theorems.
-ghost use Rattle.reckoning.specs.Theorems.{Any-calls, Dates-kept, Decides-bookings, Every-call-answered, Late-exactly, Led-sound, One-answer, One-world};
+ghost use Rattle.reckoning.specs.Theorems.{Any-calls, Dates-kept, Decides-bookings, Every-call-answered, Late-exactly, Led-sound, One-answer, One-world, Withdrawing};
 use rules::Rule;
 
 // Every world that a log leads to is sound: nobody can be late under any list that is still allowed.
@@ -28,4 +28,9 @@ pub fn one_answer<R: Rule>(rule: &R)
     ensures world { λ _. ⌜ One-world (R·Rule .model (now (rule .entry))) ⌝ }
     ensures answered { λ _. ⌜ Every-call-answered (R·Rule .model (now (rule .entry))) ⌝ }
     ensures logs { λ _. ⌜ Any-calls (R·Rule .model (now (rule .entry))) ⌝ }
+{}
+
+// Withdrawing a job from a sound board brings no other job's worst finish later.
+pub fn withdrawing_never_delays<R: Rule>(rule: &R)
+    ensures { λ _. ⌜ Withdrawing (R·Rule .model (now (rule .entry))) ⌝ }
 {}

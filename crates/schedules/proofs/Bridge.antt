@@ -81,7 +81,7 @@ module _ (V : Verdict) where
       Least (Gives V f c machine ws t) (suc c)
   finish-now f c machine ws t e = ((0, omega arith, e), λ k h (n, at, _). omega arith)
 
-  -- not Finished in this quarter, but in a later one
+  -- not finished in this quarter, but in a later one
   pub finish-later : (f : List ℕ) (c : ℕ) (machine : Option Run) (ws : List Job) (t q : ℕ) → (quarter V (kind-in f (suc c)) c machine ws .event ≡ Finished t → ⊥) →
       Least (Gives V f (suc c) (next-machine (kind-in f (suc c)) c machine ws) (next-waiting (kind-in f (suc c)) c machine ws) t) q →
       Least (Gives V f c machine ws t) q

@@ -25,6 +25,7 @@ use Rattle.schedules.proofs.Lists.{pairs-at, any-map, first-any}
 use Rattle.schedules.proofs.Busy.{busy-at}
 use Rattle.schedules.proofs.Planned.{allowed-increasing, least-unique, right-ready, plan-finishes, earliest-plan, earliest-first, length-timed}
 
+-- a job to stand past the end of a list
 abbrev pub nobody : Job
 nobody = record { ticket = 0; release = 0; due = 0; length = 0 }
 
@@ -99,9 +100,11 @@ pub decides : (m : Model) → Laws m → Decides m
 decides m laws V bounded w jobs small right =
     let xs = on-machine (w .machine) ++ jobs in
     let first = earliest (w .clock) jobs in (
-      λ holds every. holds (every first (earliest-plan (w .clock) jobs)),
-      λ fails starts plan.
-          any-map (Can-be-late m V (planned w jobs first)) (Can-be-late m V (planned w jobs starts)) xs (stays-late m laws V bounded w jobs small right starts plan) fails,
+      (
+        λ every. every first (earliest-plan (w .clock) jobs),
+        λ fails starts plan.
+            any-map (Can-be-late m V (planned w jobs first)) (Can-be-late m V (planned w jobs starts)) xs (stays-late m laws V bounded w jobs small right starts plan) fails,
+      ),
       λ t late starts plan.
           plan-argument m laws V bounded w jobs small right t (first-any (Can-be-late m V (planned w jobs first)) (λ j. j .ticket ≡ t) xs late) starts plan,
     )

@@ -9,7 +9,7 @@ use Rattle.rules.specs.Model.{Model, Laws, cleans}
 use Rattle.rules.specs.Faults.{Allowed}
 use Rattle.inspections.specs.Verdict.{Verdict, Bounded}
 use Rattle.schedules.specs.Runs.{completion, Slot}
-use Rattle.schedules.proofs.States.{Above, Beyond, beyond-sooner, cleans-split, allowed-beyond, allowed-after-wait, above-refl, above-cleans, above-wait}
+use Rattle.schedules.proofs.States.{Above, Beyond, beyond-sooner, cleans-split, allowed-beyond, allowed-after-wait, above-cleans, above-wait}
 use Rattle.schedules.proofs.Completion.{completion-before, completion-grows, finish, finish-grows}
 use Rattle.schedules.proofs.Lockstep.{Started, Reached, Past, Earlier, Step, Outcome, outcome-same, run}
 
@@ -121,25 +121,3 @@ module _ (m : Model) (laws : Laws m) (V : Verdict) (bounded : Bounded V) (s0 c0 
       let go : Outcome m V s0 c0 (and-then V F k) C f → Answer F (k ∷ ks) (finish V C js f) =
       elim [ inl next ↦ follow o (and-then V F k) (quiet-then F k q) C f next | inr past ↦ past-answer (and-then V F k) ks _ past ] in
       rw runs (go (job F j k T f q starts step))
-
-  -- the plan argument, for the last jobs of two schedules
-  pub plan : {js ks : List Slot} → Outlasts js ks → (T : ℕ) → c0 ≤ T → (f : List ℕ) → Allowed m s0 c0 f →
-      (h : List ℕ) × Allowed m s0 c0 h × ((finish V T js f ≤ finish V T ks h) ⊎ (4096 < finish V T ks h))
-  plan o T late f a =
-      follow o (λ h. T) (record { begun = late; quiet = λ g b. refl }) T f (record {
-        earlier = record {
-          state = s0;
-          clock = c0;
-          rest = f;
-          allowed = a;
-          begun = omega arith;
-          passed = late;
-          base = above-wait m laws (c0 - c0) s0 s0 (above-refl m laws s0 small);
-          same = λ p S h. refl;
-        };
-        at = T;
-        state = cleans m (T - c0) s0;
-        reached = λ g b. (g, allowed-after-wait m s0 c0 (T - c0) T (omega arith) g b, refl, λ p S h. refl);
-        later = omega arith;
-        freer = above-cleans m laws (T - c0) s0 s0 (above-refl m laws s0 small);
-      })

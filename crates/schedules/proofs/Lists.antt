@@ -1,6 +1,6 @@
 -- Lemmas on the words of specs/Lists.antt.
-use mathlib.Core.Logic.{_⊎_, inl, inr}
-use mathlib.Core.List.{List, [], _∷_, _++_}
+use mathlib.Core.Logic.{inl, inr}
+use mathlib.Core.List.{List, [], _∷_}
 use Prim.Native.Nat.{ℕ, zero, suc, _<_, _≤_, max}
 use native.Mathlib.Omega.{arith}
 use lib.ListN.{length, getD}
@@ -45,15 +45,6 @@ module _ {A : Type 0} where
   first-any P Q [] f = f
   first-any P Q (x ∷ xs) (inl p) = inl (p .1, p .0)
   first-any P Q (x ∷ xs) (inr p) = inr (first-any P Q xs (p .1))
-
-  pub any-split : (P : A → Type 0) (xs ys : List A) → Any P (xs ++ ys) → Any P xs ⊎ Any P ys
-  any-split P [] ys a = inr a
-  any-split P (x ∷ xs) ys (inl p) = inl (inl p)
-  any-split P (x ∷ xs) ys (inr a) = elim (any-split P xs ys a) [ inl l ↦ inl (inr l) | inr r ↦ inr r ]
-
-  pub all-fits : (P Q : A → Type 0) (xs : List A) → All P xs → All (λ x. P x → Q x) xs → All Q xs
-  all-fits P Q [] p f = tt
-  all-fits P Q (x ∷ xs) p f = (f .0 (p .0), all-fits P Q xs (p .1) (f .1))
 
   pub all-by : (P : A → Type 0) → ((x : A) → P x) → (xs : List A) → All P xs
   all-by P f [] = tt

@@ -39,7 +39,7 @@ Long j = 1 ≤ j .length
 abbrev times-from : Verdict → ℕ → ℕ → List Job → List ℕ → List ℕ
 times-from V p S ws g = completion V p S g ∷ finishes V (completion V p S g) (slots ws) g
 
--- What a quarter makes of the jobs and of their finishes: nobody is Finished, or the first job is.
+-- What a quarter makes of the jobs and of their finishes: nobody is finished, or the first job is.
 abbrev pub Moved : Verdict → ℕ → Option Run → Event → List Job → List Job → List ℕ → List ℕ → Type 0
 Moved V c machine event ws jobs times g =
     (((t : ℕ) → event ≡ Finished t → ⊥) × (on-machine machine ++ ws ≡ jobs) × (foreseen V (suc c) machine ws g ≡ times))
@@ -98,7 +98,7 @@ module _ (V : Verdict) (bounded : Bounded V) where
             (inl (running-goes-on (j .ticket), refl, same-times (j .length) (suc c + (h - suc gone)) (c + (h - gone)) ws g (omega arith) ∙ sym e))
       ]
 
-  -- a run that is not hit, in a Clean quarter
+  -- a run that is not hit, in a clean quarter
   clean-moves : (c : ℕ) (j : Job) (gone : ℕ) (ws : List Job) (g : List ℕ) → gone < j .length → gone ≤ c → Increasing (suc c) g →
       Moved V c (run-after j (suc gone) None) (event-after j (suc gone) None) ws (j ∷ ws) (times-from V (j .length) (c - gone) ws g) g
   clean-moves c j gone ws g short before i =
@@ -133,7 +133,7 @@ module _ (V : Verdict) (bounded : Bounded V) where
       hit-moves c j gone (V p x) ws _ g (omega arith)
       (times-hit p (c - gone) (suc c) (c + (V p x - gone)) ws g (omega arith) (omega arith) (omega arith) from)
 
-  -- an Idle quarter: nobody waits, or the first waiting job is not released yet
+  -- an idle quarter: nobody waits, or the first waiting job is not released yet
   idle-moves : (k : Kind) (c : ℕ) (j : Job) (ws : List Job) (g : List ℕ) → c < j .release →
       foreseen V (suc c) None (j ∷ ws) g ≡ foreseen V c None (j ∷ ws) (shown k c g)
   idle-moves Clean c j ws g h = same-times (j .length) (max (j .release) (suc c)) (max (j .release) c) ws g (omega arith)

@@ -1,4 +1,4 @@
--- The completion time of the literature, and that it is the one of runs.
+-- The first clear stretch as long as a job, and that the job is completed with it.
 use mathlib.Core.Path.{_≡_}
 use mathlib.Core.Logic.{_⊎_}
 use mathlib.Core.List.{List}

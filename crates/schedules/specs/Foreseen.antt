@@ -1,4 +1,4 @@
--- When the theory's `completion` and `finishes` have the jobs of a board finished.
+-- When whole runs have the jobs of a board finished.
 use mathlib.Core.List.{List, [], _∷_}
 use Prim.Native.Nat.{ℕ, _+_, _-_}
 use Rattle.std.specs.declared.option.Option.{Option}

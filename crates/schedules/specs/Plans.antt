@@ -10,7 +10,7 @@ use Rattle.calls.specs.declared.call.Job.{Job}
 use Rattle.schedules.specs.World.{World, on-machine}
 use Rattle.schedules.specs.Walk.{Finish, Late}
 
--- One start for each job: none before its release, the first not before the clock, and each other not before the start of the job before it and
+-- One start for each job: none before its release, the first not before the clock, and each other not before the start of the job before it plus
 -- that job's length.
 abbrev pub Plan : ℕ → List Job → List ℕ → Type 0
 Plan clock [] [] = Unit {0}
@@ -41,6 +41,7 @@ Can-be-late m V w j = (f : List ℕ) × Allowed m (w .state) (w .clock) f × Lat
 abbrev pub Fails : Model → Verdict → World → List Job → List ℕ → Type 0
 Fails m V w jobs starts = Any (Can-be-late m V (planned w jobs starts)) (on-machine (w .machine) ++ jobs)
 
+-- no plan of the sequence withstands all allowed lists
 abbrev pub Every-plan-fails : Model → Verdict → World → List Job → Type 0
 Every-plan-fails m V w jobs = (starts : List ℕ) → Plan (w .clock) jobs starts → Fails m V w jobs starts
 

@@ -1,6 +1,6 @@
 -- The statements about finishes and plans.
 use mathlib.Core.List.{List}
-use mathlib.Core.Logic.{_⊎_}
+use mathlib.Core.Logic.{_↔_, _⊎_}
 use Prim.Native.Nat.{ℕ, _<_, _≤_}
 use Rattle.calls.specs.declared.call.Job.{Job}
 use Rattle.inspections.specs.Verdict.{Bounded, Verdict}
@@ -30,17 +30,17 @@ Plan-argument m =
 abbrev pub Decides : Model → Type 0
 Decides m =
     (V : Verdict) → Bounded V → (w : World) (jobs : List Job) → w .state < m .size → Right (with-waiting w jobs) →
-    ((Fails m V w jobs (earliest (w .clock) jobs) → ⊥) → Every-plan-fails m V w jobs → ⊥)
-    × (Fails m V w jobs (earliest (w .clock) jobs) → Every-plan-fails m V w jobs)
+    (Every-plan-fails m V w jobs ↔ Fails m V w jobs (earliest (w .clock) jobs))
     × ((t : ℕ) → First-late m V w jobs (earliest (w .clock) jobs) t → (starts : List ℕ) → Plan (w .clock) jobs starts → Fails-for m V w jobs starts t)
 
--- whatever finish q an allowed list brings the job in the world after, some allowed list brings it one not earlier in the world before, or one after 4096
+-- Whatever finish q an allowed list brings the job in the world after, some allowed list brings it one that is not earlier in the world before, or one that is
+-- after 4096.
 abbrev pub Removed : Model → Verdict → World → World → Job → Type 0
 Removed m V before after j =
     (f : List ℕ) → Allowed m (after .state) (after .clock) f → (q : ℕ) → Finish V f after (j .ticket) q →
     (g : List ℕ) × Allowed m (before .state) (before .clock) g × (r : ℕ) × Finish V g before (j .ticket) r × ((q ≤ r) ⊎ (4096 < r))
 
--- Removing a waiting job brings no other job's worst finish later.
+-- Removing a waiting job brings no other job's worst finish later, unless that could be after 4096 already.
 abbrev pub Removing : Model → Type 0
 Removing m =
     (V : Verdict) → Bounded V → (w : World) → w .state < m .size → Right w → (t : ℕ) →

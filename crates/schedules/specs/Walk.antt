@@ -21,7 +21,7 @@ abbrev pub kind-in : List ℕ → ℕ → Kind
 kind-in [] t = Clean
 kind-in (q ∷ f) t = cond (eqb q t) Spoiled (kind-in f t)
 
--- the events of the n quarters after the clock, under the faults f, each job being started as early as possible
+-- the events of the n quarters after the clock, under the faults f, each job being started as soon as machine and release permit
 abbrev pub walk : Verdict → List ℕ → ℕ → ℕ → Option Run → List Job → List Event
 walk V f zero clock machine waiting = []
 walk V f (suc n) clock machine waiting =
@@ -33,12 +33,14 @@ abbrev pub Gives : Verdict → List ℕ → ℕ → Option Run → List Job → 
 Gives V f clock machine waiting ticket q =
     (n : ℕ) × (q ≡ clock + suc n) × (getD (walk V f (suc n) clock machine waiting) n Idle ≡ Finished ticket)
 
--- the job with the ticket is Finished in the quarter q, the first in which the walk says so
+-- the job with the ticket is finished in the quarter q, the first in which the walk says so
 abbrev pub Finish : Verdict → List ℕ → World → ℕ → ℕ → Type 0
 Finish V f w ticket q = Least (Gives V f (w .clock) (w .machine) (w .waiting) ticket) q
 
+-- it finishes after its due quarter
 abbrev pub Late : Verdict → List ℕ → World → Job → Type 0
 Late V f w j = (q : ℕ) × Finish V f w (j .ticket) q × (j .due < q)
 
+-- it finishes not after its due quarter
 abbrev pub On-time : Verdict → List ℕ → World → Job → Type 0
 On-time V f w j = (q : ℕ) × Finish V f w (j .ticket) q × (q ≤ j .due)

@@ -38,6 +38,7 @@ started clock (Some r) ws = Some r
 started clock None [] = None
 started clock None (j ∷ ws) = cond (leb (j .release) clock) (Some (begun j)) None
 
+-- it is then no longer among the waiting
 abbrev pub left-waiting : ℕ → Option Run → List Job → List Job
 left-waiting clock (Some r) ws = ws
 left-waiting clock None [] = []
@@ -54,6 +55,7 @@ abbrev pub run-after : Job → ℕ → Option ℕ → Option Run
 run-after j gone None = cond (eqb gone (j .length)) None (Some (record { job = j; gone = gone; hit = None }))
 run-after j gone (Some h) = cond (eqb gone h) (Some (begun j)) (Some (record { job = j; gone = gone; hit = Some h }))
 
+-- what is said of it
 abbrev pub event-after : Job → ℕ → Option ℕ → Event
 event-after j gone None = cond (eqb gone (j .length)) (Finished (j .ticket)) (Running (j .ticket))
 event-after j gone (Some h) = cond (eqb gone h) (Again (j .ticket)) (Running (j .ticket))
@@ -63,6 +65,7 @@ abbrev pub machine-after : Verdict → Kind → Option Run → Option Run
 machine-after V kind None = None
 machine-after V kind (Some r) = run-after (r .job) (suc (r .gone)) (struck V kind (r .job .length) (suc (r .gone)) (r .hit))
 
+-- what is said of that quarter
 abbrev pub event-of : Verdict → Kind → Option Run → Event
 event-of V kind None = Idle
 event-of V kind (Some r) = event-after (r .job) (suc (r .gone)) (struck V kind (r .job .length) (suc (r .gone)) (r .hit))
@@ -80,9 +83,11 @@ abbrev pub on-machine : Option Run → List Job
 on-machine None = []
 on-machine (Some r) = r .job ∷ []
 
+-- of a world
 abbrev pub board : World → List Job
 board w = on-machine (w .machine) ++ w .waiting
 
+-- ticket 1 to 9999, release and due quarter up to 4096, length 1 to 96
 abbrev pub Within-limits : Job → Type 0
 Within-limits j = (1 ≤ j .ticket) × (j .ticket ≤ 9999) × (j .release ≤ 4096) × (j .due ≤ 4096) × (1 ≤ j .length) × (j .length ≤ 96)
 

@@ -1,3 +1,4 @@
+// The run on the machine, and the kinds of quarters.
 use calls::Job;
 use calls::call::JobDebug;
 use calls::call::JobPartialEq;

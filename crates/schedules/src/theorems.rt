@@ -3,7 +3,7 @@ ghost use Rattle.schedules.specs.Clear.{Finish-at-end, Finish-at-fault};
 ghost use Rattle.schedules.specs.Theorems.{Bridge, Decides, Plan-argument, Removing};
 use rules::Rule;
 
-// The completion of a job is the literature's: the least clock that ends a clear stretch as long as the job.
+// A job is completed with the first clear stretch as long as it is; with faults seen at the end, the first that is a whole number of runs after its start.
 pub fn completion_is_least()
     ensures fault { λ _. ⌜ Finish-at-fault ⌝ }
     ensures end { λ _. ⌜ Finish-at-end ⌝ }
@@ -20,7 +20,7 @@ pub fn plan_argument<R: Rule>(rule: &R)
     ensures decides { λ _. ⌜ Decides (R·Rule .model (now (rule .entry))) ⌝ }
 {}
 
-// Removing a waiting job makes no other job's worst finish later.
+// Removing a waiting job makes no other job's worst finish later, unless that could be after 4,096 already.
 pub fn removing_never_delays<R: Rule>(rule: &R)
     ensures { λ _. ⌜ Removing (R·Rule .model (now (rule .entry))) ⌝ }
 {}
