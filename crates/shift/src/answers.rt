@@ -1,6 +1,6 @@
 // A line to its answer.
 ghost use Rattle.board.specs.Quarters.{moment};
-ghost use Rattle.shift.specs.Answers.{answered, heard as heardOf, over as overOf, turn};
+ghost use Rattle.shift.specs.Answers.{answered, heard as heardOf, over as overOf, turn, unheard as unheardOf};
 ghost use Prim.Native.Nat.{ℕ};
 ghost use Rattle.shift_text.specs.Lines.{kept};
 ghost use mathlib.Core.List.{List};
@@ -14,15 +14,29 @@ use inspections::Inspection;
 use rules::Rule;
 use shift_text::read_call;
 
-// The call of a line. Bookings and withdrawals are not taken yet, so that their letters are malformed.
+// The call of a line, of which the first bytes may stand for the whole.
 fn heard(line: &[u8]) -> Result<Call, Refusal>
     ensures answer { λ r. ⌜ r ≡ heardOf (now (line .entry)) ⌝ }
     ensures cut { λ r. ⌜ ((whole : List ℕ) → now (line .entry) ≡ kept whole → r ≡ heardOf whole) ⌝ }
 {
-    match line {
-        [b'B' | b'W', ..] => Err(Refusal::Malformed { field: 1 }),
-        _ => read_call(line),
+    without_bookings(line)
+}
+
+// Whether the line begins with the letter of a booking or a withdrawal, which are not taken yet.
+fn unheard(line: &[u8]) -> bool
+    ensures { λ r. ⌜ r ≡ unheardOf (now (line .entry)) ⌝ }
+{
+    matches!(line, [b'B' | b'W', ..])
+}
+
+// Such lines are malformed.
+fn without_bookings(line: &[u8]) -> Result<Call, Refusal>
+    ensures { λ r. ⌜ r ≡ heardOf (now (line .entry)) ⌝ }
+{
+    if unheard(line) {
+        return Err(Refusal::Malformed { field: 1 });
     }
+    read_call(line)
 }
 
 // The answer that a quarter gives.

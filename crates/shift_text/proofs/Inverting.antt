@@ -52,7 +52,7 @@ number-some n fs gs e =
 pub some-number : (n : ℕ) (gs : List Field) → n < 100000 → first number (decimal n ∷ gs) ≡ Some (n, gs)
 some-number n gs small = ap (λ o. beside o gs) (number-decimal n small)
 
-one-byte-some : (f : Field) (b : ℕ) → one-byte f ≡ Some b → f ≡ b ∷ []
+pub one-byte-some : (f : Field) (b : ℕ) → one-byte f ≡ Some b → f ≡ b ∷ []
 one-byte-some [] b e = absurd (grind arith)
 one-byte-some (c ∷ []) b e = cc
 one-byte-some (c ∷ d ∷ cs) b e = absurd (grind arith)
@@ -93,7 +93,7 @@ pub lettered-some : (line : List ℕ) (l : ℕ) (fs : List Field) → lettered l
 lettered-some line l fs e = letter-first line l fs (chosen (leb (length line) 80) (first one-byte (fields line)) (l, fs) e)
 
 -- and the other way round, where it is short and no field has a tab
-fields-tabs : (f : Field) (fs : List Field) → Whole f → All Whole fs → fields (f ++ tabs fs) ≡ f ∷ fs
+pub fields-tabs : (f : Field) (fs : List Field) → Whole f → All Whole fs → fields (f ++ tabs fs) ≡ f ∷ fs
 fields-tabs f [] w ws = rw append-nil (fields-alone f w)
 fields-tabs f (g ∷ fs) w ws = fields-more f (g ++ tabs fs) w ∙ ap (λ hs. f ∷ hs) (fields-tabs g fs (ws .0) (ws .1))
 

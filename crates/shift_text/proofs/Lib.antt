@@ -4,9 +4,12 @@ pub mod Splitting
 pub mod Letters
 pub mod Endings
 pub mod Inverting
+pub mod FirstWrong
 pub mod OneText
+pub mod CallRead
 pub mod Amounts
 pub mod OneOpening
+pub mod OpeningRead
 pub mod Cutting
 pub mod Replying
 pub mod Keeping

@@ -1,5 +1,5 @@
 -- A first line says an opening just where it is the opening's text.
-use mathlib.Core.Path.{_≡_, refl, sym, ap, subst, _∙_}
+use mathlib.Core.Path.{_≡_, refl, ap, ap₂, subst, _∙_}
 use mathlib.Core.Bool.{Bool, true, false, cond}
 use mathlib.Core.List.{List, [], _∷_}
 use mathlib.Core.Logic.{inl, inr}
@@ -8,11 +8,9 @@ use native.Mathlib.Omega.{arith}
 use Rattle.std.proofs.shelf.Tests.{eqb-true}
 use Rattle.std.specs.declared.option.Option.{Option}
 use Rattle.std.specs.declared.option.Option.the-variants.{None, Some}
-use Rattle.std.specs.declared.result.Result.{Result}
 use Rattle.std.specs.declared.result.Result.the-variants.{Ok}
 use Rattle.std.specs.Options.{mapped}
 use Rattle.std.specs.shelf.Lists.{All}
-use Rattle.calls.specs.declared.refusal.Refusal.{Refusal}
 use Rattle.shift_text.specs.declared.choice.FaultRule.{FaultRule}
 use Rattle.shift_text.specs.declared.choice.FaultRule.the-variants.{Both, Count, Gap}
 use Rattle.shift_text.specs.declared.choice.InspectionKind.{InspectionKind}
@@ -21,9 +19,8 @@ use Rattle.shift_text.specs.declared.choice.Opening.{Opening}
 use Rattle.shift_text.specs.Fields.{Field, beside, first, number}
 use Rattle.shift_text.specs.Lines.{at-field, lettered}
 use Rattle.shift_text.specs.Openings.{by-letter as opening-by-letter, amount, hyphen, inspection, kind, opened, opening, rule, with-gap}
-use Rattle.shift_text.specs.Texts.{Read, Short-amount, Writable-opening, amount-text, count-of, gap-of, letter-of, line-of, opening-text}
+use Rattle.shift_text.specs.Texts.{opening-fields, Short-amount, Writable-opening, amount-text, count-of, gap-of, letter-of, line-of, opening-text}
 use Rattle.shift_text.proofs.Amounts.{amount-decimal}
-use Rattle.shift_text.proofs.Cutting.{opening-kept}
 use Rattle.shift_text.proofs.Inverting.{at-field-ok, beside-some, ended-ok, first-some, lettered-some, some-lettered}
 use Rattle.shift_text.proofs.OneText.{choice, length-tabs, short-decimal, Short}
 use Rattle.shift_text.proofs.Spelling.{decimal-number}
@@ -83,16 +80,16 @@ with-gap-some c None r fs e = absurd (grind arith)
 with-gap-some c (Some p) r fs e = let b = beside-some (rule c (p .0)) r (p .1) fs e in (p .0, ap (λ gs. Some (p .0, gs)) (b .1), b .0)
 
 abbrev Says : List Field → Opening → Type 0
-Says fs o = Writable-opening o × (line-of 79 fs ≡ opening-text o)
+Says fs o = Writable-opening o × (fs ≡ opening-fields o)
 
 together : (fs three four five : List Field) (c g : Option ℕ) (r : FaultRule) (k : InspectionKind) → Short-amount c → fs ≡ amount-text c ∷ three →
     Short-amount g → three ≡ amount-text g ∷ four → four ≡ (letter-of k ∷ []) ∷ five → five ≡ [] → c ≡ count-of r → g ≡ gap-of r →
     Says fs (record { rule = r; inspection = k })
 together fs three four five c g r k sc two sg x y z cr gr =
     let all : fs ≡ amount-text (count-of r) ∷ amount-text (gap-of r) ∷ (letter-of k ∷ []) ∷ [] = cc in
-    ((subst Short-amount cr sc, subst Short-amount gr sg), ap (line-of 79) all)
+    ((subst Short-amount cr sc, subst Short-amount gr sg), all)
 
-opened-says : (fs : List Field) (o : Opening) → opened fs ≡ Ok o → Says fs o
+pub opened-says : (fs : List Field) (o : Opening) → opened fs ≡ Ok o → Says fs o
 opened-says fs o e =
     let c = at-field-ok 2 (first amount fs) _ o e in
     let r = at-field-ok 3 (with-gap (c .0) (first amount (c .1))) _ o (c .3) in
@@ -105,17 +102,17 @@ opened-says fs o e =
     let ks = inspection-some (i .0) (r .1) (i .1) (i .2) in
     subst (Says fs) (z .1) (together _ _ _ _ _ _ _ _ (cs .0) (cs .1) (gs .0) (gs .1) ks (z .0) (rs .0) (rs .1))
 
-opening-says : (line : List ℕ) (o : Opening) → opening line ≡ Ok o → Writable-opening o × (line ≡ opening-text o)
+pub opening-says : (line : List ℕ) (o : Opening) → opening line ≡ Ok o → Writable-opening o × (line ≡ opening-text o)
 opening-says line o e =
     let a = at-field-ok 1 (lettered line) _ o e in
     let is = lettered-some line (a .0) (a .1) (a .2) in
     elim (choice (a .0) 79 _ _ _ (a .3)) [
-      | inl h ↦ let s = opened-says (a .1) o (h .1) in (s .0, is ∙ ap (λ l. line-of l (a .1)) (h .0) ∙ s .1)
+      | inl h ↦ let s = opened-says (a .1) o (h .1) in (s .0, is ∙ ap₂ line-of (h .0) (s .1))
       | inr e ↦ absurd (grind arith)
     ]
 
 -- The other way round.
-whole-amount : (a : Option ℕ) → Short-amount a → Whole (amount-text a)
+pub whole-amount : (a : Option ℕ) → Short-amount a → Whole (amount-text a)
 whole-amount None s = (λ e. omega arith, tt)
 whole-amount (Some n) s = whole-decimal n s
 
@@ -123,7 +120,7 @@ short-amount : (a : Option ℕ) → Short-amount a → Short (amount-text a)
 short-amount None s = omega arith
 short-amount (Some n) s = short-decimal n s
 
-whole-letter : (k : InspectionKind) → Whole (letter-of k ∷ [])
+pub whole-letter : (k : InspectionKind) → Whole (letter-of k ∷ [])
 whole-letter AtEnd = (λ e. omega arith, tt)
 whole-letter AtFault = (λ e. omega arith, tt)
 
@@ -139,17 +136,10 @@ kind-of AtFault = refl
 says-opened : (o : Opening) → Writable-opening o → opened (amount-text (count-of (o .rule)) ∷ amount-text (gap-of (o .rule)) ∷ (letter-of (o .inspection) ∷ []) ∷ []) ≡ Ok o
 says-opened o (c, g) = simp (some-amount, rule-of, kind-of)
 
-says-opening : (o : Opening) → Writable-opening o → opening (opening-text o) ≡ Ok o
+pub says-opening : (o : Opening) → Writable-opening o → opening (opening-text o) ≡ Ok o
 says-opening o w =
     let fs = amount-text (count-of (o .rule)) ∷ amount-text (gap-of (o .rule)) ∷ (letter-of (o .inspection) ∷ []) ∷ [] in
     let long = length-tabs fs (short-amount (count-of (o .rule)) (w .0), (short-amount (gap-of (o .rule)) (w .1), (omega arith, tt))) in
     let wholes : All Whole fs = (whole-amount (count-of (o .rule)) (w .0), (whole-amount (gap-of (o .rule)) (w .1), (whole-letter (o .inspection), tt))) in
     let read = some-lettered 79 fs (λ e. omega arith) wholes (omega arith) in
     ap (λ l. at-field 1 l opening-by-letter) read ∙ says-opened o w
-
-pub opening-read : (line : List ℕ) (r : Result Opening Refusal) → r ≡ opening line → Read opening Writable-opening opening-text line r
-opening-read line r e = record {
-  answer = e;
-  one-text = λ o. (λ h. opening-says line o (sym e ∙ h), λ w. e ∙ ap opening (w .1) ∙ says-opening o (w .0));
-  cut = λ whole k. e ∙ opening-kept line whole k;
-}

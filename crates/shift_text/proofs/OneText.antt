@@ -1,5 +1,5 @@
 -- A line says a call just where it is the call's text.
-use mathlib.Core.Path.{_≡_, refl, sym, ap, subst, _∙_}
+use mathlib.Core.Path.{_≡_, refl, sym, ap, ap₂, subst, _∙_}
 use mathlib.Core.Bool.{cond}
 use mathlib.Core.List.{List, [], _∷_, map}
 use mathlib.Core.Logic.{_⊎_, inl, inr}
@@ -9,30 +9,27 @@ use lib.Dec.{eqb}
 use lib.ListN.{length, length-append}
 use Rattle.std.proofs.shelf.Decimals.{length-decimal-le}
 use Rattle.std.proofs.shelf.Tests.{cases-bool, cond-false, cond-true, eqb-true}
-use Rattle.std.specs.declared.result.Result.{Result}
 use Rattle.std.specs.declared.result.Result.the-variants.{Ok}
 use Rattle.std.specs.shelf.Lists.{All}
 use Rattle.std.specs.Written.{decimal}
 use Rattle.calls.specs.declared.call.Call.{Call}
 use Rattle.calls.specs.declared.call.Call.the-variants.{Book, Pass, Spoil, Withdraw}
-use Rattle.calls.specs.declared.refusal.Refusal.{Refusal}
 use Rattle.shift_text.specs.Fields.{Field, first, number}
 use Rattle.shift_text.specs.Lines.{at-field, book, by-letter, call, ended, lettered, withdraw}
-use Rattle.shift_text.specs.Texts.{Read, Writable, line-of, tabs, text}
-use Rattle.shift_text.proofs.Cutting.{call-kept}
+use Rattle.shift_text.specs.Texts.{Writable, letter, line-of, numbers, tabs, text}
 use Rattle.shift_text.proofs.Inverting.{at-field-ok, ended-ok, lettered-some, number-some, some-lettered, some-number}
 use Rattle.shift_text.proofs.Splitting.{Whole, whole-decimal}
 
--- the letter and the fields are the text of the call, whose numbers are small
+-- the letter and the fields are those of the call, whose numbers are small
 abbrev Says : ℕ → List Field → Call → Type 0
-Says l fs c = Writable c × (line-of l fs ≡ text c)
+Says l fs c = Writable c × (l ≡ letter c) × (fs ≡ map decimal (numbers c))
 
 withdraw-says : (fs : List Field) (c : Call) → withdraw fs ≡ Ok c → Says 87 fs c
 withdraw-says fs c e =
     let a = at-field-ok 2 (first number fs) (λ ticket gs. ended 3 gs (Withdraw ticket)) c e in
     let n = number-some (a .0) fs (a .1) (a .2) in
     let d = ended-ok 3 (a .1) (Withdraw (a .0)) c (a .3) in
-    subst (Says 87 fs) (d .1) (n .0, ap (line-of 87) (n .1 ∙ ap (λ gs. decimal (a .0) ∷ gs) (d .0)))
+    subst (Says 87 fs) (d .1) ((n .0, tt), refl, n .1 ∙ ap (λ gs. decimal (a .0) ∷ gs) (d .0))
 
 -- one number more before the fields that were read
 more : (n : ℕ) (fs gs hs : List Field) → fs ≡ decimal n ∷ gs → gs ≡ hs → fs ≡ decimal n ∷ hs
@@ -52,12 +49,12 @@ book-says fs c e =
     let dn = number-some (d .0) (r .1) (d .1) (d .2) in
     let ln = number-some (l .0) (d .1) (l .1) (l .2) in
     let all = more _ _ _ _ (tn .1) (more _ _ _ _ (pn .1) (more _ _ _ _ (rn .1) (more _ _ _ _ (dn .1) (more _ _ _ _ (ln .1) (z .0))))) in
-    subst (Says 66 fs) (z .1) ((tn .0, pn .0, rn .0, dn .0, ln .0), ap (line-of 66) all)
+    subst (Says 66 fs) (z .1) ((tn .0, (pn .0, (rn .0, (dn .0, (ln .0, tt))))), refl, all)
 
 bare-says : (l : ℕ) (fs : List Field) (b c : Call) → Says l [] b → ended 2 fs b ≡ Ok c → Says l fs c
 bare-says l fs b c says e =
     let d = ended-ok 2 fs b c e in
-    subst (Says l fs) (d .1) (says .0, ap (line-of l) (d .0) ∙ says .1)
+    subst (Says l fs) (d .1) (says .0, says .1, d .0 ∙ says .2)
 
 -- a test of a letter
 pub choice : {X : Type 0} (l k : ℕ) (x y z : X) → cond (eqb l k) x y ≡ z → ((l ≡ k) × (x ≡ z)) ⊎ (y ≡ z)
@@ -67,27 +64,27 @@ choice l k x y z e =
       | inr f ↦ inr (sym (cond-false (eqb l k) x y f) ∙ e)
     ]
 
-by-letter-says : (l : ℕ) (fs : List Field) (c : Call) → by-letter l fs ≡ Ok c → Says l fs c
+pub by-letter-says : (l : ℕ) (fs : List Field) (c : Call) → by-letter l fs ≡ Ok c → Says l fs c
 by-letter-says l fs c e =
     elim (choice l 66 _ _ _ e) [
       | inl h ↦ rw (h .0) (book-says fs c (h .1))
       | inr e ↦ elim (choice l 87 _ _ _ e) [
         | inl h ↦ rw (h .0) (withdraw-says fs c (h .1))
         | inr e ↦ elim (choice l 80 _ _ _ e) [
-          | inl h ↦ rw (h .0) (bare-says 80 fs Pass c (tt, refl) (h .1))
+          | inl h ↦ rw (h .0) (bare-says 80 fs Pass c (tt, refl, refl) (h .1))
           | inr e ↦ elim (choice l 83 _ _ _ e) [
-            | inl h ↦ rw (h .0) (bare-says 83 fs Spoil c (tt, refl) (h .1))
+            | inl h ↦ rw (h .0) (bare-says 83 fs Spoil c (tt, refl, refl) (h .1))
             | inr e ↦ absurd (grind arith)
           ]
         ]
       ]
     ]
 
-call-says : (line : List ℕ) (c : Call) → call line ≡ Ok c → Writable c × (line ≡ text c)
+pub call-says : (line : List ℕ) (c : Call) → call line ≡ Ok c → Writable c × (line ≡ text c)
 call-says line c e =
     let a = at-field-ok 1 (lettered line) by-letter c e in
     let s = by-letter-says (a .0) (a .1) c (a .3) in
-    (s .0, lettered-some line (a .0) (a .1) (a .2) ∙ s .1)
+    (s .0, lettered-some line (a .0) (a .1) (a .2) ∙ ap₂ line-of (s .1) (s .2))
 
 -- The other way round: the text of a call that can be written is short, and its fields have no tab.
 abbrev pub Short : Field → Type 0
@@ -107,7 +104,7 @@ Small ns = All (λ n. n < 100000) ns
 abbrev decimals : List ℕ → List Field
 decimals ns = map decimal ns
 
-all-whole : (ns : List ℕ) → Small ns → All Whole (decimals ns)
+pub all-whole : (ns : List ℕ) → Small ns → All Whole (decimals ns)
 all-whole [] s = tt
 all-whole (n ∷ ns) s = (whole-decimal n (s .0), all-whole ns (s .1))
 
@@ -126,17 +123,10 @@ lettered-numbers l ns ne few small =
     let read = some-lettered l (decimals ns) ne (all-whole ns small) (omega (arith, length-decimals ns, long)) in
     ap (λ o. at-field 1 o by-letter) read
 
-says-call : (c : Call) → Writable c → call (text c) ≡ Ok c
-says-call (Book place job) (t, p, r, d, l) =
+pub says-call : (c : Call) → Writable c → call (text c) ≡ Ok c
+says-call (Book place job) (t, (p, (r, (d, (l, _))))) =
     lettered-numbers 66 (job .ticket ∷ place ∷ job .release ∷ job .due ∷ job .length ∷ []) (λ e. omega arith) (omega arith) (t, (p, (r, (d, (l, tt)))))
     ∙ simp some-number
-says-call (Withdraw ticket) t = lettered-numbers 87 (ticket ∷ []) (λ e. omega arith) (omega arith) (t, tt) ∙ simp some-number
+says-call (Withdraw ticket) (t, _) = lettered-numbers 87 (ticket ∷ []) (λ e. omega arith) (omega arith) (t, tt) ∙ simp some-number
 says-call Pass w = refl
 says-call Spoil w = refl
-
-pub call-read : (line : List ℕ) (r : Result Call Refusal) → r ≡ call line → Read call Writable text line r
-call-read line r e = record {
-  answer = e;
-  one-text = λ c. (λ h. call-says line c (sym e ∙ h), λ w. e ∙ ap call (w .1) ∙ says-call c (w .0));
-  cut = λ whole k. e ∙ call-kept line whole k;
-}

@@ -1,22 +1,25 @@
 -- Calls and openings as text: each has one line that says it.
 use mathlib.Core.Path.{_≡_}
 use mathlib.Core.Logic.{_↔_}
-use mathlib.Core.List.{List, [], _∷_, _++_}
-use Prim.Native.Nat.{ℕ, _<_}
+use mathlib.Core.List.{List, [], _∷_, _++_, map}
+use Prim.Native.Nat.{ℕ, _+_, _<_, _≤_}
+use lib.ListN.{length, take}
 use Rattle.std.specs.declared.option.Option.{Option}
 use Rattle.std.specs.declared.option.Option.the-variants.{None, Some}
 use Rattle.std.specs.declared.result.Result.{Result}
-use Rattle.std.specs.declared.result.Result.the-variants.{Ok}
+use Rattle.std.specs.declared.result.Result.the-variants.{Err, Ok}
+use Rattle.std.specs.shelf.Lists.{All}
 use Rattle.std.specs.Written.{decimal}
 use Rattle.calls.specs.declared.call.Call.{Call}
 use Rattle.calls.specs.declared.call.Call.the-variants.{Book, Pass, Spoil, Withdraw}
 use Rattle.calls.specs.declared.refusal.Refusal.{Refusal}
+use Rattle.calls.specs.declared.refusal.Refusal.the-variants.{Malformed}
 use Rattle.shift_text.specs.declared.choice.FaultRule.{FaultRule}
 use Rattle.shift_text.specs.declared.choice.FaultRule.the-variants.{Both, Count, Gap}
 use Rattle.shift_text.specs.declared.choice.InspectionKind.{InspectionKind}
 use Rattle.shift_text.specs.declared.choice.InspectionKind.the-variants.{AtEnd, AtFault}
 use Rattle.shift_text.specs.declared.choice.Opening.{Opening}
-use Rattle.shift_text.specs.Fields.{Field}
+use Rattle.shift_text.specs.Fields.{Field, fields}
 use Rattle.shift_text.specs.Lines.{kept}
 
 -- each field with a tab before it
@@ -28,20 +31,27 @@ tabs (f ∷ fs) = 9 ∷ (f ++ tabs fs)
 abbrev pub line-of : ℕ → List Field → List ℕ
 line-of letter fs = letter ∷ tabs fs
 
--- the line that writes a call: B, W, P or S, and its numbers in decimal digits
+-- the letter of a call: B, W, P or S
+abbrev pub letter : Call → ℕ
+letter (Book place job) = 66
+letter (Withdraw ticket) = 87
+letter Pass = 80
+letter Spoil = 83
+
+-- its numbers
+abbrev pub numbers : Call → List ℕ
+numbers (Book place job) = job .ticket ∷ place ∷ job .release ∷ job .due ∷ job .length ∷ []
+numbers (Withdraw ticket) = ticket ∷ []
+numbers Pass = []
+numbers Spoil = []
+
+-- the line that writes a call: its letter, and its numbers in decimal digits
 abbrev pub text : Call → List ℕ
-text (Book place job) =
-    line-of 66 (decimal (job .ticket) ∷ decimal place ∷ decimal (job .release) ∷ decimal (job .due) ∷ decimal (job .length) ∷ [])
-text (Withdraw ticket) = line-of 87 (decimal ticket ∷ [])
-text Pass = line-of 80 []
-text Spoil = line-of 83 []
+text c = line-of (letter c) (map decimal (numbers c))
 
 -- the numbers of the call have at most five digits
 abbrev pub Writable : Call → Type 0
-Writable (Book place job) = (job .ticket < 100000) × (place < 100000) × (job .release < 100000) × (job .due < 100000) × (job .length < 100000)
-Writable (Withdraw ticket) = ticket < 100000
-Writable Pass = Unit {0}
-Writable Spoil = Unit {0}
+Writable c = All (λ n. n < 100000) (numbers c)
 
 -- a number in decimal digits, or a hyphen where it is absent
 abbrev pub amount-text : Option ℕ → Field
@@ -70,20 +80,28 @@ abbrev pub letter-of : InspectionKind → ℕ
 letter-of AtEnd = 72
 letter-of AtFault = 69
 
--- the line that writes an opening: O, its count, its gap and its inspection
+-- the fields of an opening after its letter: its count, its gap and its inspection
+abbrev pub opening-fields : Opening → List Field
+opening-fields o = amount-text (count-of (o .rule)) ∷ amount-text (gap-of (o .rule)) ∷ (letter-of (o .inspection) ∷ []) ∷ []
+
+-- the line that writes an opening: O and its fields
 abbrev pub opening-text : Opening → List ℕ
-opening-text o =
-    line-of 79 (amount-text (count-of (o .rule)) ∷ amount-text (gap-of (o .rule)) ∷ (letter-of (o .inspection) ∷ []) ∷ [])
+opening-text o = line-of 79 (opening-fields o)
 
 -- the numbers of the opening have at most five digits
 abbrev pub Writable-opening : Opening → Type 0
 Writable-opening o = Short-amount (count-of (o .rule)) × Short-amount (gap-of (o .rule))
 
+-- some text has the same first n fields as the line, and where the line has fewer, has no more
+abbrev pub Begun : {X : Type 0} → (X → Type 0) → (X → List ℕ) → List ℕ → ℕ → Type 0
+Begun {X} Fits text-of line n = (x : X) × Fits x × (take n (fields (text-of x)) ≡ take n (fields line))
+
 -- The answer r to a line, where `says` is what a line says, and x can be written if Fits x, as the line text-of x.
 pub record Read {X : Type 0} (says : List ℕ → Result X Refusal) (Fits : X → Type 0) (text-of : X → List ℕ) (line : List ℕ) (r : Result X Refusal) : Type 0 where
-  -- it is what the line says
-  pub answer : r ≡ says line
   -- it is x just where x can be written and the line is its text: no other line says x
   pub one-text : (x : X) → (r ≡ Ok x) ↔ (Fits x × (line ≡ text-of x))
+  -- of a line that is not too long it names the first field up to which no text begins as the line does
+  pub first-wrong : length line ≤ 80 → (refusal : Refusal) → r ≡ Err refusal →
+      (n : ℕ) × (refusal ≡ Malformed (n + 1)) × Begun Fits text-of line n × (Begun Fits text-of line (n + 1) → ⊥)
   -- it is what every line says of which just these bytes were kept
   pub cut : (whole : List ℕ) → line ≡ kept whole → r ≡ says whole

@@ -95,7 +95,8 @@ fn by_letter(letter: char, fields: Option<&[u8]>) -> Result<Call, Refusal>
 
 // The call that a line after the first writes.
 pub fn read_call(line: &[u8]) -> Result<Call, Refusal>
-    ensures { λ r. ⌜ Read callOf Writable text (now (line .entry)) r ⌝ }
+    ensures answer { λ r. ⌜ r ≡ callOf (now (line .entry)) ⌝ }
+    ensures text { λ r. ⌜ Read callOf Writable text (now (line .entry)) r ⌝ }
 {
     let Some((letter, fields)) = lettered(line) else {
         return Err(Refusal::Malformed { field: 1 });

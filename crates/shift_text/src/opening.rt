@@ -100,7 +100,8 @@ fn by_letter(letter: char, fields: Option<&[u8]>) -> Result<Opening, Refusal>
 
 // The opening that the first line writes.
 pub fn read_opening(line: &[u8]) -> Result<Opening, Refusal>
-    ensures { λ r. ⌜ Read openingOf Writable-opening opening-text (now (line .entry)) r ⌝ }
+    ensures answer { λ r. ⌜ r ≡ openingOf (now (line .entry)) ⌝ }
+    ensures text { λ r. ⌜ Read openingOf Writable-opening opening-text (now (line .entry)) r ⌝ }
 {
     let Some((letter, fields)) = lettered(line) else {
         return Err(Refusal::Malformed { field: 1 });
