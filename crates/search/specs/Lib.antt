@@ -1,0 +1,5 @@
+pub mod Rows
+pub mod Powers
+pub mod Hits
+pub mod Rounds
+pub mod Chains
