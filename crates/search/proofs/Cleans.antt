@@ -1,18 +1,17 @@
 -- n clean quarters.
 use mathlib.Core.Path.{_≡_, sym, ap, subst, _∙_}
-use Prim.Native.Nat.{ℕ, zero, suc, _+_, _*_, _/_, _%_, _^_, _<_}
+use Prim.Native.Nat.{ℕ, _+_, _*_, _/_, _%_, _^_, _<_}
 use mathlib.Core.Logic.{inl, inr}
 use Rattle.std.proofs.shelf.Tests.{cases-eq}
 use native.Mathlib.Nat.{mod-lt, add-mul, div-add-mod', mul-assoc, one-mul, pow-succ', zero-mul}
 use native.Mathlib.Numerals.{add-one}
 use native.Mathlib.Omega.{arith}
 use Rattle.rules.specs.Model.{Laws, Model, cleans}
-use Rattle.schedules.proofs.States.{cleans-more}
+use Rattle.schedules.proofs.States.{above-cleans, above-refl, cleans-more}
 use Rattle.std.specs.declared.option.Option.the-variants.{Some}
 
 pub cleans-stay : (m : Model) → Laws m → (n s : ℕ) → s < m .size → cleans m n s < m .size
-cleans-stay m laws zero s h = h
-cleans-stay m laws (suc n) s h = laws .clean-stays (cleans m n s) (cleans-stay m laws n s h)
+cleans-stay m laws n s h = above-cleans m laws n s s (above-refl m laws s h) .0
 
 -- one bit of how many quarters are left
 bit : (left k : ℕ) → left * 2 ^ k ≡ left / 2 * 2 ^ (k + 1) + left % 2 * 2 ^ k
@@ -62,6 +61,4 @@ cleans-next m n s a b e f = f ∙ ap (m .clean) e ∙ sym (ap (λ k. cleans m k 
 
 -- clean quarters keep the order
 pub cleans-keep : (m : Model) → Laws m → (n s t : ℕ) → s < m .size → t < m .size → m .Freer s t → m .Freer (cleans m n s) (cleans m n t)
-cleans-keep m laws zero s t h k f = f
-cleans-keep m laws (suc n) s t h k f =
-    laws .clean-keeps (cleans m n s) (cleans m n t) (cleans-stay m laws n s h) (cleans-stay m laws n t k) (cleans-keep m laws n s t h k f)
+cleans-keep m laws n s t h k f = above-cleans m laws n s t (h, k, f) .2

@@ -1,6 +1,5 @@
 // The hits of one run: how it is given up, for each quarter that its first fault can be in.
 ghost use Prim.Native.Nat.{_+_, _<_, _≤_, _^_};
-ghost use Rattle.rules.specs.Model.{cleans};
 ghost use Rattle.search.specs.Hits.{Hit};
 ghost use Rattle.search.specs.Powers.{Powers};
 ghost use Rattle.search.specs.Rows.{Grew};

@@ -1,4 +1,4 @@
-// The exact search for worst finishes, by a worktable of rows: what one round of a job makes of them.
+// The search for worst finishes, by a worktable of rows: all rounds of one job.
 mod hits;
 mod powers;
 mod rounds;
