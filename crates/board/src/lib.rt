@@ -1,4 +1,7 @@
 // The board: a fault rule, an inspection and a clock.
+
+#![tactic(auto)]
+
 mod opening;
 mod quarters;
 

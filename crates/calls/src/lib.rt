@@ -1,4 +1,7 @@
 // What is asked of a board and what it answers.
+
+#![tactic(auto)]
+
 pub mod answer;
 pub mod call;
 pub mod refusal;

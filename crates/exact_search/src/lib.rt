@@ -1,4 +1,7 @@
 // The exact search: the worst finish of every job of a board under every list of faults that the rule still allows, or the first job that can be late.
+
+#![tactic(auto)]
+
 mod board_search;
 mod first_starts;
 mod fits;

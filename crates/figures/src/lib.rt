@@ -1,4 +1,7 @@
 // The worked figures, proved about the definitions of rules, inspections and finishes.
+
+#![tactic(auto)]
+
 ghost use Rattle.figures.specs.Figures.{WorstFigures, FinishFigures};
 
 // Does nothing: its contract is that the figures are right.

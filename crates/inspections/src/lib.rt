@@ -1,5 +1,7 @@
 // Inspections: after how many quarters a run with a fault is given up.
 
+#![tactic(auto)]
+
 mod at_end;
 mod at_fault;
 mod inspection;

@@ -1,4 +1,7 @@
 // One list over the caller's memory, for fault quarters and finish rows alike.
+
+#![tactic(auto)]
+
 ghost use Rattle.std.specs.Prelude.{◌≡◌};
 
 mod edits;

@@ -1,4 +1,7 @@
 // The reckoning of a log: how every call is answered, and what every log shows.
+
+#![tactic(auto)]
+
 mod theorems;
 
 pub use theorems::{

@@ -1,5 +1,7 @@
 // Rules for faults: which quarters may be spoiled, as states that a clean or a spoiled quarter moves.
 
+#![tactic(auto)]
+
 mod both;
 mod count;
 mod gap;

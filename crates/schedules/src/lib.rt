@@ -1,4 +1,7 @@
 // Finishes and plans: when jobs finish, and why waiting never helps.
+
+#![tactic(auto)]
+
 pub mod run;
 mod theorems;
 

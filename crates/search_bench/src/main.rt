@@ -1,4 +1,7 @@
 // How long a search takes. With no argument it prints what is found of each board; with one, times as well.
+
+#![tactic(auto)]
+
 mod used;
 
 use crate::used::Used;

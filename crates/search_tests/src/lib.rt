@@ -1,4 +1,7 @@
 // Tests of the search: the worked figures, boards at every limit, and small boards against a plain enumeration of every allowed list of faults.
+
+#![tactic(auto)]
+
 #[cfg(test)]
 mod boards;
 #[cfg(test)]

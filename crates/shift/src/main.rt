@@ -1,4 +1,7 @@
 // A shift: lines on standard input, answers on standard output.
+
+#![tactic(auto)]
+
 mod answers;
 mod console;
 mod run;

@@ -1,4 +1,7 @@
 // The text of a shift: a line to a call, an answer to a line.
+
+#![tactic(auto)]
+
 mod choice;
 mod fields;
 mod line_buffer;

@@ -3,8 +3,8 @@ use Rattle.exact_search.proofs.Beginnings.{idle_front, idle_path}
 use Rattle.exact_search.proofs.Boards.{judges_idle, room_behind}
 use Rattle.exact_search.proofs.board_search.first_late_of_board.Goals as goal
 
-pub first-late-behind-requires : goal.first-late-behind-requires
-first-late-behind-requires g c = record {
+pub first_late_behind-requires : goal.first_late_behind-requires
+first_late_behind-requires g c = record {
   machine = c.in-Some.is;
   fit = c.requires.fit;
   room = room_behind c.args.moment.machine c.in-Some.run' c.args.waiting.now _ c.in-Some.is c.requires.room;
@@ -23,7 +23,7 @@ returns-in-None g c =
     let bounded = g.met.I.Inspection.bounded c.args.inspection.now in
     let s0 = c.args.moment.state in
     let c0 = c.args.moment.clock in
-    judges_idle m V c0 s0 c.args.moment.machine c.args.waiting.now c.args.finishes.now c.first-late.new.finishes c.first-late.result c.in-None.is
-    (c.first-late.ensures s0 c0 (λ h. c0) c.requires.fit.state
+    judges_idle m V c0 s0 c.args.moment.machine c.args.waiting.now c.args.finishes.now c.first_late.new.finishes c.first_late.result c.in-None.is
+    (c.first_late.ensures s0 c0 (λ h. c0) c.requires.fit.state
     (idle_path m laws V bounded s0 c0 c.requires.fit.state c.clear.new.row c.keep.new.row c.clear.ensures c.keep.ensures)
     (idle_front m laws V bounded s0 c0 c.requires.fit.state c.clear.new.row c.keep.new.row c.clear.ensures c.keep.ensures))

@@ -10,8 +10,8 @@ returns-in-Some g c =
     let V = g.I.Inspection.verdict c.args.inspection.now in
     let bounded = g.met.I.Inspection.bounded c.args.inspection.now in
     let w : World = world_at c.args.moment c.args.waiting.now in
-    let fit = c.if-not-is-fit.ensures in
-    let distinct = c.if-not-are-all-distinct.ensures in
+    let fit = c.if-not-is_fit.ensures in
+    let distinct = c.if-not-are_all_distinct.ensures in
     let found = c.in-Some.ensures in
     inr (
       λ out. out fit,
@@ -22,8 +22,8 @@ returns-in-Some g c =
           inr (
             λ few. omega (arith, c.jobs_on.ensures),
             (
-              swept c.args.table.now c.first-late-of-board-late.new.work c.clear.new.row (omega arith) (omega arith) c.clear.ensures,
-              inr (c.in-Some.ticket, refl, late_found m V bounded w fit distinct c.in-Some.ticket found.0 c.args.finishes.now c.first-late-of-board-late.new.finishes found.1),
+              swept c.args.table.now c.first_late_of_board-late.new.work c.clear.new.row (omega arith) (omega arith) c.clear.ensures,
+              inr (c.in-Some.ticket, refl, late_found m V bounded w fit distinct c.in-Some.ticket found.0 c.args.finishes.now c.first_late_of_board-late.new.finishes found.1),
             ),
           ),
         ),
@@ -36,8 +36,8 @@ returns-in-None g c =
     let V = g.I.Inspection.verdict c.args.inspection.now in
     let bounded = g.met.I.Inspection.bounded c.args.inspection.now in
     let w : World = world_at c.args.moment c.args.waiting.now in
-    let fit = c.if-not-is-fit.ensures in
-    let distinct = c.if-not-are-all-distinct.ensures in
+    let fit = c.if-not-is_fit.ensures in
+    let distinct = c.if-not-are_all_distinct.ensures in
     inr (
       λ out. out fit,
       inr (
@@ -47,8 +47,8 @@ returns-in-None g c =
           inr (
             λ few. omega (arith, c.jobs_on.ensures),
             (
-              swept c.args.table.now c.first-late-of-board-late.new.work c.clear.new.row (omega arith) (omega arith) c.clear.ensures,
-              inl (refl, all_kept m V bounded w fit distinct c.args.finishes.now c.first-late-of-board-late.new.finishes c.in-None.ensures),
+              swept c.args.table.now c.first_late_of_board-late.new.work c.clear.new.row (omega arith) (omega arith) c.clear.ensures,
+              inl (refl, all_kept m V bounded w fit distinct c.args.finishes.now c.first_late_of_board-late.new.finishes c.in-None.ensures),
             ),
           ),
         ),

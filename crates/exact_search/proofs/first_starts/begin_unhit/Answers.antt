@@ -7,7 +7,7 @@ use Rattle.exact_search.specs.Rows.{Grew, KeepsOne}
 pub keep-requires : goal.keep-requires
 keep-requires g c =
     let laws = g.met.R.Rule.lawful c.args.rule.now in
-    let inside = at_stays (g.R.Rule.model c.args.rule.now) laws (c.args.quarters - c.args.gone) c.args.state c.after-cleans.result c.requires.state c.after-cleans.ensures in
+    let inside = at_stays (g.R.Rule.model c.args.rule.now) laws (c.args.quarters - c.args.gone) c.args.state c.after_cleans.result c.requires.state c.after_cleans.ensures in
     record { state = omega (arith, laws.small); time = omega arith }
 
 pub returns : goal.returns
@@ -19,12 +19,12 @@ returns g c =
     let p = c.args.quarters in
     let gone = c.args.gone in
     let B = c.args.begun in
-    let there = c.after-cleans.ensures in
+    let there = c.after_cleans.ensures in
     let kept = subst (λ s. Grew (KeepsOne s (B + p)) c.clear.new.row c.keep.new.row) there c.keep.ensures in
     record {
-      path = open_path m laws V bounded c.args.state (B + gone) c.requires.state p gone B c.clear-2.new.row c.keep-hits.new.next c.clear.new.row c.keep.new.row
-          c.clear-2.ensures c.keep-hits.ensures c.clear.ensures kept refl c.requires.gone c.requires.by _ _ refl there;
-      inside = at_stays m laws (p - gone) c.args.state c.after-cleans.result c.requires.state there;
-      begun = open_begun m laws V bounded c.args.state (B + gone) c.requires.state p gone B c.clear-2.new.row c.keep-hits.new.next c.clear.new.row c.keep.new.row
-          c.clear-2.ensures c.keep-hits.ensures c.clear.ensures kept refl c.requires.gone c.requires.by;
+      path = open_path m laws V bounded c.args.state (B + gone) c.requires.state p gone B c.clear-2.new.row c.keep_hits.new.next c.clear.new.row c.keep.new.row
+          c.clear-2.ensures c.keep_hits.ensures c.clear.ensures kept refl c.requires.gone c.requires.by _ _ refl there;
+      inside = at_stays m laws (p - gone) c.args.state c.after_cleans.result c.requires.state there;
+      begun = open_begun m laws V bounded c.args.state (B + gone) c.requires.state p gone B c.clear-2.new.row c.keep_hits.new.next c.clear.new.row c.keep.new.row
+          c.clear-2.ensures c.keep_hits.ensures c.clear.ensures kept refl c.requires.gone c.requires.by;
     }

@@ -5,11 +5,11 @@ use Rattle.exact_search.proofs.fits.are_searchable.Goals as goal
 use Rattle.exact_search.specs.Jobs.{Searchable}
 use Rattle.std.proofs.ByRecursion.{All-get_or, All-more}
 
-pub returns-then-not-is-searchable : goal.returns-then-not-is-searchable
-returns-then-not-is-searchable c all = c.if-not-is-searchable.ensures (All-get_or Searchable c.args.jobs.now c.loop-job.job-index nobody (omega arith) all)
+pub returns-then-not-is_searchable : goal.returns-then-not-is_searchable
+returns-then-not-is_searchable c all = c.if-not-is_searchable.ensures (All-get_or Searchable c.args.jobs.now c.loop-job.job-index nobody (omega arith) all)
 
 pub loop-job-preserved : goal.loop-job-preserved
-loop-job-preserved c = All-more Searchable c.args.jobs.now c.loop-job.job-index nobody (omega arith) c.loop-job.invariant c.if-not-is-searchable.ensures
+loop-job-preserved c = All-more Searchable c.args.jobs.now c.loop-job.job-index nobody (omega arith) c.loop-job.invariant c.if-not-is_searchable.ensures
 
 pub returns : goal.returns
 returns c = all_of Searchable c.loop-job.job-index c.args.jobs.now (omega arith) c.loop-job.invariant

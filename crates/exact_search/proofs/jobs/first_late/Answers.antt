@@ -6,8 +6,8 @@ use Rattle.exact_search.specs.Jobs.{Searchable}
 use Rattle.exact_search.specs.Sequences.{Judged, finish_of}
 use Rattle.std.proofs.ByRecursion.{All-get_or}
 
-pub begin-waiting-requires : goal.begin-waiting-requires
-begin-waiting-requires g c =
+pub begin_waiting-requires : goal.begin_waiting-requires
+begin_waiting-requires g c =
     let fit = All-get_or Searchable c.args.waiting.now c.loop-place.place nobody (omega arith) c.requires.waiting in record {
       quarters = omega (arith, fit.2);
       due = fit.0;
@@ -17,8 +17,8 @@ begin-waiting-requires g c =
       row = omega arith;
     }
 
-pub go-through-requires : goal.go-through-requires
-go-through-requires g c =
+pub go_through-requires : goal.go_through-requires
+go_through-requires g c =
     let fit = All-get_or Searchable c.args.waiting.now c.loop-place.place nobody (omega arith) c.requires.waiting in record {
       quarters = omega (arith, fit.2);
       due = fit.0;
@@ -35,26 +35,26 @@ loop-place-preserved g c = (
   λ s0 c0 F small path front.
       before_more (g.R.Rule.model c.args.rule.now) (g.I.Inspection.verdict c.args.inspection.now) s0 c0 F c.args.waiting.now c.args.finishes.now (g.met.R.Rule.lawful c.args.rule.now) (g.met.I.Inspection.bounded c.args.inspection.now) small
       c.loop-place.place c.loop-place.row c.loop-place.finishes c.loop-place.path.time c.loop-place.path.state (omega arith) (c.loop-place.invariant.1 s0 c0 F small path front)
-      c.begin-waiting.new.row c.begin-waiting.new.finish c.in-Some.next.time c.in-Some.next.state c.in-Some.ensures.0
-      c.go-through.new.row c.latest.result (omega arith) c.if-go-through.ensures
+      c.begin_waiting.new.row c.begin_waiting.new.finish c.in-Some.next.time c.in-Some.next.state c.in-Some.ensures.0
+      c.go_through.new.row c.latest.result (omega arith) c.if-go_through.ensures
       (λ s t h. c.latest.ensures.most s t (omega (arith, c.size.ensures)))
       (λ s t h i. let found = c.latest.ensures.reached s t (omega (arith, c.size.ensures)) i in (found.0, omega (arith, found.1, c.size.ensures), found.2)),
 )
 
-pub returns-in-default : goal.returns-in-default
-returns-in-default g c s0 c0 F small path front = (
+pub returns-in_default : goal.returns-in_default
+returns-in_default g c s0 c0 F small path front = (
   c.loop-place.place,
   late_clean (g.R.Rule.model c.args.rule.now) (g.I.Inspection.verdict c.args.inspection.now) s0 c0 F c.args.waiting.now c.args.finishes.now (g.met.R.Rule.lawful c.args.rule.now) (g.met.I.Inspection.bounded c.args.inspection.now) small
       c.loop-place.place c.loop-place.row c.loop-place.finishes c.loop-place.path.time c.loop-place.path.state (omega arith) (c.loop-place.invariant.1 s0 c0 F small path front)
-      c.in-default.ensures,
+      c.in_default.ensures,
 )
 
-pub returns-then-go-through : goal.returns-then-go-through
-returns-then-go-through g c s0 c0 F small path front = (
+pub returns-then-go_through : goal.returns-then-go_through
+returns-then-go_through g c s0 c0 F small path front = (
   c.loop-place.place,
   late_hit (g.R.Rule.model c.args.rule.now) (g.I.Inspection.verdict c.args.inspection.now) s0 c0 F c.args.waiting.now c.args.finishes.now (g.met.R.Rule.lawful c.args.rule.now) (g.met.I.Inspection.bounded c.args.inspection.now) small
       c.loop-place.place c.loop-place.row c.loop-place.finishes c.loop-place.path.time c.loop-place.path.state (omega arith) (c.loop-place.invariant.1 s0 c0 F small path front)
-      c.begin-waiting.new.row c.begin-waiting.new.finish c.in-Some.next.time c.in-Some.next.state c.in-Some.ensures.0 c.if-go-through.ensures,
+      c.begin_waiting.new.row c.begin_waiting.new.finish c.in-Some.next.time c.in-Some.next.state c.in-Some.ensures.0 c.if-go_through.ensures,
 )
 
 pub returns-after-loop-place : goal.returns-after-loop-place

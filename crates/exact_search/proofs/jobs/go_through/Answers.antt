@@ -17,7 +17,7 @@ returns g c =
     let p = c.args.job.length in
     let due = c.args.job.due in
     let searched = c.if-runs.ensures in
-    subst⁻¹ (EndsJob m V c.args.job c.args.row.now c.args.finish.now) c.copy-from-slice.ensures.after
+    subst⁻¹ (EndsJob m V c.args.job c.args.row.now c.args.finish.now) c.copy_from_slice.ensures.after
     (λ s0 c0 F begun. (
       front_from m laws V bounded s0 c0 p due F c.args.row.now c.runs.new.starts c.args.finish.now c.runs.new.finish c.requires.due begun searched,
       by_from m laws V bounded s0 c0 p due F c.args.row.now c.runs.new.starts c.args.finish.now c.runs.new.finish begun searched,

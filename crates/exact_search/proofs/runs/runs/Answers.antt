@@ -20,7 +20,7 @@ keep-requires g c =
     let m = g.R.Rule.model c.args.rule.now in
     let found = c.in-Some.ensures in
     let lands = cleans_stay m (g.met.R.Rule.lawful c.args.rule.now) c.args.quarters c.in-Some.next.state (omega arith) in
-    record { state = omega (arith, c.after-cleans-end.ensures, lands); time = omega arith }
+    record { state = omega (arith, c.after_cleans-end.ensures, lands); time = omega arith }
 
 pub loop-next-smaller : goal.loop-next-smaller
 loop-next-smaller g c =
@@ -32,10 +32,10 @@ loop-next-preserved g c =
     let found = c.in-Some.ensures in (
       omega arith,
       going_more (g.R.Rule.model c.args.rule.now) (g.I.Inspection.verdict c.args.inspection.now) c.args.quarters c.args.due c.args.starts.now c.loop-next.starts c.loop-next.done c.args.finish.now c.loop-next.finish c.loop-next.invariant.1
-          c.in-Some.next.state (get_or c.loop-next.starts c.in-Some.next.state 0 - 1) c.after-cleans-end.result c.keep-hits.new.next c.keep.new.row (omega arith) (omega arith) (omega arith) (omega arith) c.after-cleans-end.ensures c.keep.ensures c.keep-hits.ensures,
+          c.in-Some.next.state (get_or c.loop-next.starts c.in-Some.next.state 0 - 1) c.after_cleans-end.result c.keep_hits.new.next c.keep.new.row (omega arith) (omega arith) (omega arith) (omega arith) c.after_cleans-end.ensures c.keep.ensures c.keep_hits.ensures,
     )
 
 pub returns : goal.returns
 returns g c =
     going_all (g.R.Rule.model c.args.rule.now) (g.I.Inspection.verdict c.args.inspection.now) c.args.quarters c.args.due c.args.starts.now c.loop-next.starts c.loop-next.done c.args.finish.now c.loop-next.finish c.loop-next.invariant.1
-    (λ s h. c.in-default.ensures s (omega (arith, c.size-in-loop-next.ensures)))
+    (λ s h. c.in_default.ensures s (omega (arith, c.size-in-loop-next.ensures)))

@@ -17,7 +17,7 @@ pub keep-requires : goal.keep-requires
 keep-requires g c =
     let m = g.R.Rule.model c.args.rule.now in
     let lands = cleans_stay m (g.met.R.Rule.lawful c.args.rule.now) c.args.quarters c.loop-state.state (omega arith) in
-    record { state = omega (arith, c.after-cleans-end.ensures, lands); time = omega arith }
+    record { state = omega (arith, c.after_cleans-end.ensures, lands); time = omega arith }
 
 pub loop-state-preserved : goal.loop-state-preserved
 loop-state-preserved g c =
@@ -31,7 +31,7 @@ loop-state-preserved g c =
           let i : get_or c.args.starts.now n 0 ≡ t + 1 = omega (arith, w.if-latest-gt0.true) in
           let d : t + p ≤ c.args.due = omega (arith, w.if-start-quarters.false) in
           simp (w.next-is, w.finish-is) (ran_more m V p c.args.due c.args.starts.now n t _ _ _ _ _ _ _ _ i d
-          w.keep-hits.ensures w.after-cleans-end.ensures refl w.keep.ensures c.loop-state.invariant)
+          w.keep_hits.ensures w.after_cleans-end.ensures refl w.keep.ensures c.loop-state.invariant)
       | else-latest-gt0 w ↦
           let z : get_or c.args.starts.now n 0 ≡ 0 = omega (arith, w.if-latest-gt0.false) in
           simp (w.next-is, w.finish-is) (ran_skip m V p c.args.due c.args.starts.now n _ _ _ _ z c.loop-state.invariant)

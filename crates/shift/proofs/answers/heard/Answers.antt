@@ -4,6 +4,6 @@ use Rattle.shift.proofs.answers.heard.Goals as goal
 
 pub returns : goal.returns
 returns c = record {
-  answer = c.without-bookings.ensures;
-  cut = λ whole k. c.without-bookings.ensures ∙ heard_kept c.args.line.now whole k;
+  answer = c.without_bookings.ensures;
+  cut = λ whole k. c.without_bookings.ensures ∙ heard_kept c.args.line.now whole k;
 }

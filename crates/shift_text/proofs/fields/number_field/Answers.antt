@@ -4,10 +4,10 @@ use Rattle.shift_text.proofs.fields.number_field.Goals as goal
 use Rattle.shift_text.specs.Fields.{first, left, number}
 use Rattle.std.specs.Option.{option_map}
 
-pub returns-then-value-eq-NO-NUMBER : goal.returns-then-value-eq-NO-NUMBER
-returns-then-value-eq-NO-NUMBER c =
+pub returns-then-value-eq-NO_NUMBER : goal.returns-then-value-eq-NO_NUMBER
+returns-then-value-eq-NO_NUMBER c =
     ap (λ o. first number (left (option_map (λ x. x.now) o))) c.in-Some.is
-    ∙ longest_none c.in-Some.bytes.now _ _ c.number-value.ensures c.if-value-eq-NO-NUMBER.true
+    ∙ longest_none c.in-Some.bytes.now _ _ c.number-value.ensures c.if-value-eq-NO_NUMBER.true
 
 pub returns-in-empty : goal.returns-in-empty
 returns-in-empty c = search (rules, longest_last)
@@ -15,5 +15,5 @@ returns-in-empty c = search (rules, longest_last)
 pub returns-in-9 : goal.returns-in-9
 returns-in-9 c = search (rules, longest_tab)
 
-pub returns-in-default-default : goal.returns-in-default-default
-returns-in-default-default c = search (rules, longest_wrong)
+pub returns-in_default-default : goal.returns-in_default-default
+returns-in_default-default c = search (rules, longest_wrong)

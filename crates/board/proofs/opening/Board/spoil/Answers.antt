@@ -3,6 +3,6 @@ use Rattle.board.proofs.Seeing.{spoil_seen}
 
 pub returns : goal.returns
 returns g c =
-    let steps = c.spoiled-quarter.ensures in
+    let steps = c.spoiled_quarter.ensures in
     let laws = g.met.R.Rule.lawful c.args.self.now.rule in
     record { quarter = steps.quarter; seen = spoil_seen (g.R.Rule.model c.args.self.now.rule) laws _ _ steps.quarter; kept = steps.kept }
