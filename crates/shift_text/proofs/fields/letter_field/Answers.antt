@@ -1,7 +1,7 @@
 use Rattle.std.proofs.Common.{ap, ◌∙◌, rules}
 use Rattle.shift_text.proofs.Letters.{byte_alone, byte_more, byte_none, byte_tab, byte_wrong}
 use Rattle.shift_text.proofs.fields.letter_field.Goals as goal
-use Rattle.shift_text.proofs.fields.letter_field.Goals.{in_default-bytes-via-else-bytes-lt1+else-bytes-lt2+in_default·+in_default·-bytes-3, in_default-bytes-via-then-bytes-lt1}
+use Rattle.shift_text.proofs.fields.letter_field.Goals.{in_default-bytes-via-else-bytes-lt1+else-bytes-lt2+in_default+in_default-bytes-3, in_default-bytes-via-then-bytes-lt1}
 use Rattle.shift_text.specs.Fields.{first, left, one_byte}
 use Rattle.std.specs.Option.{option_map}
 
@@ -19,5 +19,5 @@ returns-in_default-bytes c =
     ap (λ o. first one_byte (left (option_map (λ x. x.now) o))) c.in-Some.is
     ∙ elim c.in_default-bytes.branch [
       | in_default-bytes-via-then-bytes-lt1 w ↦ search (rules, byte_none)
-      | in_default-bytes-via-else-bytes-lt1+else-bytes-lt2+in_default·+in_default·-bytes-3 w ↦ search (rules, byte_wrong)
+      | in_default-bytes-via-else-bytes-lt1+else-bytes-lt2+in_default+in_default-bytes-3 w ↦ search (rules, byte_wrong)
     ]
