@@ -11,7 +11,7 @@ ROOT = sys.argv[1] if len(sys.argv) > 1 else "."
 TOKEN = re.compile(r"[\w'+·-]*-[\w'+·-]*")
 # Names of the library with dashes.
 LIBRARY = re.compile(
-    r"(All|length|add|mul|div|mod|pow|take|drop|get_or|append|le|lt|ltb|leb|eq|eqb|cond|zero|one|digits_value|decimal|drop|sub|bit)-[\w'-]+$"
+    r"(All|length|add|mul|div|mod|pow|take|drop(?=-(cons|set|append))|get_or|append|le|lt|ltb|leb|eq|eqb|cond|zero|one|digits_value|decimal|drop|sub|bit)-[\w'-]+$"
 )
 WORDS = [("in-default", "in_default")] + [
     (f"{a}-{b}", f"{a}_{b}")
@@ -47,7 +47,7 @@ def main():
                 new = "\n".join(
                     line if line.startswith("use Rattle.std") else TOKEN.sub(lambda m: turn(m.group(0)), line) for line in text.split("\n")
                 )
-                new = re.sub(r"\bl\.-(\w)", r"l._\1", new)
+                new = re.sub(r"\.-(\w)", r"._\1", new)
                 if new != text:
                     open(p, "w", encoding="utf-8").write(new)
                     print(p)

@@ -10,16 +10,16 @@ loop-round-init g c =
 pub returns-then-is_empty : goal.returns-then-is_empty
 returns-then-is_empty g c =
     going_all (g.R.Rule.model c.args.rule.now) (g.met.R.Rule.lawful c.args.rule.now) (g.I.Inspection.verdict c.args.inspection.now) (g.met.I.Inspection.bounded c.args.inspection.now) c.args.quarters c.args.due
-    c.loop-round.-round c.args.starts.now c.loop-round.starts c.args.finish.now c.loop-round.finish
+    c.loop-round._round c.args.starts.now c.loop-round.starts c.args.finish.now c.loop-round.finish
     (λ s t l e. omega (arith, c.if-is_empty.ensures.0 refl s)) c.loop-round.invariant
 
 pub loop-round-preserved : goal.loop-round-preserved
 loop-round-preserved g c =
     simp c.copy_from_slice.ensures.after (going_more (g.R.Rule.model c.args.rule.now) (g.met.R.Rule.lawful c.args.rule.now) (g.I.Inspection.verdict c.args.inspection.now) (g.met.I.Inspection.bounded c.args.inspection.now) c.args.quarters c.args.due
-    c.loop-round.-round c.args.starts.now c.loop-round.starts c.clear.new.row c.round.new.next c.args.finish.now c.loop-round.finish c.round.new.finish
+    c.loop-round._round c.args.starts.now c.loop-round.starts c.clear.new.row c.round.new.next c.args.finish.now c.loop-round.finish c.round.new.finish
     c.clear.ensures c.if-round.ensures c.loop-round.invariant)
 
 pub returns : goal.returns
 returns g c =
     going_out (g.R.Rule.model c.args.rule.now) (g.met.R.Rule.lawful c.args.rule.now) (g.I.Inspection.verdict c.args.inspection.now) (g.met.I.Inspection.bounded c.args.inspection.now) c.args.quarters c.args.due
-    c.loop-round.-round c.args.starts.now c.loop-round.starts c.args.finish.now c.loop-round.finish (omega arith) c.loop-round.invariant
+    c.loop-round._round c.args.starts.now c.loop-round.starts c.args.finish.now c.loop-round.finish (omega arith) c.loop-round.invariant

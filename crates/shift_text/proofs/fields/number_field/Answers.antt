@@ -15,5 +15,5 @@ returns-in-empty c = search (rules, longest_last)
 pub returns-in-9 : goal.returns-in-9
 returns-in-9 c = search (rules, longest_tab)
 
-pub returns-in_default-rest : goal.returns-in_default-default
+pub returns-in_default-rest : goal.returns-in_default-rest
 returns-in_default-rest c = search (rules, longest_wrong)
