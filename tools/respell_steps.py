@@ -11,7 +11,7 @@ ROOT = sys.argv[1] if len(sys.argv) > 1 else "."
 TOKEN = re.compile(r"[\w'+·-]*-[\w'+·-]*")
 # Names of the library with dashes.
 LIBRARY = re.compile(
-    r"(All|length|add|mul|div|mod|pow|take|drop(?=-(cons|set|append))|get_or|append|le|lt|ltb|leb|eq|eqb|cond|zero|one|digits_value|decimal|drop|sub|bit)-[\w'-]+$"
+    r"(All|length|add|mul|div|mod|pow|take|drop(?=-(cons|set|append))|get_or|append|le|lt|ltb|leb|eq|eqb|cond|zero|one|digits_value|decimal|sub|bit)-[\w'-]+$"
 )
 WORDS = [("in-default", "in_default")] + [
     (f"{a}-{b}", f"{a}_{b}")

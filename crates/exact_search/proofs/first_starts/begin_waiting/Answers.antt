@@ -27,10 +27,10 @@ returns g c =
     let inside = at_stays m laws _ c.args.path.state c.after_wait-state.result c.requires.path c.after_wait-state.ensures in
     let is : c.max-start.result ≡ max k.start c.args.path.time = omega (arith, c.max-start.ensures) in (
       λ V bounded s0 c0 F small path front. (
-        waiting_path m laws V bounded s0 c0 small F k c.args.row.now c.drop-before.new.row c.keep.new.row c.clear.new.row c.args.path.time c.args.path.state c.max-start.result c.after_wait-state.result
-            path front c.drop-before.ensures is c.after_wait-state.ensures c.keep.ensures c.clear.ensures _ _ (omega arith) c.after_cleans.ensures,
-        waiting_begun m laws V bounded s0 c0 small F k c.args.row.now c.drop-before.new.row c.keep.new.row c.clear.new.row c.args.path.time c.args.path.state c.max-start.result c.after_wait-state.result
-            path front c.drop-before.ensures is c.after_wait-state.ensures c.keep.ensures c.clear.ensures c.args.job.due,
+        waiting_path m laws V bounded s0 c0 small F k c.args.row.now c.drop_before.new.row c.keep.new.row c.clear.new.row c.args.path.time c.args.path.state c.max-start.result c.after_wait-state.result
+            path front c.drop_before.ensures is c.after_wait-state.ensures c.keep.ensures c.clear.ensures _ _ (omega arith) c.after_cleans.ensures,
+        waiting_begun m laws V bounded s0 c0 small F k c.args.row.now c.drop_before.new.row c.keep.new.row c.clear.new.row c.args.path.time c.args.path.state c.max-start.result c.after_wait-state.result
+            path front c.drop_before.ensures is c.after_wait-state.ensures c.keep.ensures c.clear.ensures c.args.job.due,
       ),
       at_stays m laws c.args.job.length c.after_wait-state.result c.after_cleans.result inside c.after_cleans.ensures,
     )
