@@ -1,5 +1,6 @@
 #!/usr/bin/env python3
 """Brings the names of goals and steps in the proofs of functions to today's spelling: a name of the source keeps its underscores, and Rattle's words have them too.
+Also brings a fact of all elements of a list, defined by recursion, to the library's own name for it: the plain word is kept for the library's fact by index.
 
 usage: python3 tools/respell_steps.py [ROOT]     rewrites the Answers.antt and Invariants.antt of ROOT/crates in place; it can run again
 """
@@ -20,7 +21,25 @@ WORDS = [("in-default", "in_default")] + [
 ]
 
 
+def name_recursion():
+    """`AllByRecursion` goes by its own name."""
+    for folder, dirs, files in os.walk(os.path.join(ROOT, "crates")):
+        dirs[:] = [d for d in dirs if d != "out"]
+        for f in files:
+            p = os.path.join(folder, f)
+            if not f.endswith((".rt", ".antt")):
+                continue
+            text = open(p, encoding="utf-8").read()
+            if "AllByRecursion as All" not in text:
+                continue
+            new = text.replace("AllByRecursion as All", "AllByRecursion")
+            new = re.sub(r"(?<![\w'-])All(?![\w'-])", "AllByRecursion", new)
+            open(p, "w", encoding="utf-8").write(new)
+            print(p)
+
+
 def main():
+    name_recursion()
     for crate in sorted(os.listdir(os.path.join(ROOT, "crates"))):
         top = os.path.join(ROOT, "crates", crate)
         names = set()

@@ -2,7 +2,7 @@
 use Rattle.std.proofs.Common.{◌≡◌, ℕ, ◌+◌, ◌-◌, ◌<◌, ◌≤◌, List, Some, None, sym, ap, ◌∙◌, subst, inl, inr, ⊎_elim, arith}
 use Rattle.inspections.specs.Verdict.{Verdict}
 use Rattle.rules.specs.Model.{Model, cleans}
-use Rattle.exact_search.proofs.Growing.{grew_like, grew_more, grew_none}
+use Rattle.exact_search.proofs.Growing.{grew_like, grew_more}
 use Rattle.exact_search.specs.Hits.{Hit}
 use Rattle.exact_search.specs.Rows.{Grew, KeepsOne}
 use Rattle.std.proofs.lemmas.Bool.{cases_lt}

@@ -3,7 +3,7 @@ ghost use Rattle.schedules.specs.World.{Distinct, HitRight, RunRight, on_machine
 ghost use Rattle.exact_search.specs.Fit.{Fit};
 ghost use Rattle.exact_search.specs.Jobs.{Searchable};
 ghost use Rattle.std.specs.Prelude.{◌≡◌, ◌++◌, length, Some, MatchBool, ◌≢◌};
-ghost use Rattle.std.specs.List.{AllByRecursion as All};
+ghost use Rattle.std.specs.List.{AllByRecursion};
 
 use calls::Job;
 use rules::Rule;
@@ -23,7 +23,7 @@ fn is_searchable(job: &Job) -> bool
 
 // Whether those of all jobs are.
 fn are_searchable(jobs: &[Job]) -> bool
-    ensures { MatchBool result (All Searchable jobs.now) ((All Searchable jobs.now) → ⊥) }
+    ensures { MatchBool result (AllByRecursion Searchable jobs.now) ((AllByRecursion Searchable jobs.now) → ⊥) }
 {
     for job in jobs {
         if !is_searchable(job) {
@@ -66,7 +66,7 @@ pub(crate) fn is_fit<R: Rule>(rule: &R, moment: &Moment, waiting: &[Job]) -> boo
 
 // Whether one of the jobs has the ticket.
 fn has_ticket(jobs: &[Job], ticket: u32) -> bool
-    ensures { MatchBool result (All (λ j. ticket ≢ j.ticket) jobs.now → ⊥) (All (λ j. ticket ≢ j.ticket) jobs.now) }
+    ensures { MatchBool result (AllByRecursion (λ j. ticket ≢ j.ticket) jobs.now → ⊥) (AllByRecursion (λ j. ticket ≢ j.ticket) jobs.now) }
 {
     for job in jobs {
         if job.ticket == ticket {

@@ -3,7 +3,7 @@ ghost use Rattle.std.specs.Prelude.{◌≡◌, ◌<◌, ◌≤◌, length, Match
 ghost use Rattle.exact_search.specs.Jobs.{EndsJob, LateJob, Searchable};
 ghost use Rattle.exact_search.specs.Powers.{Powers};
 ghost use Rattle.exact_search.specs.Sequences.{JudgesFrom};
-ghost use Rattle.std.specs.List.{AllByRecursion as All};
+ghost use Rattle.std.specs.List.{AllByRecursion};
 
 use crate::first_starts::{Faultless, begin_waiting};
 use crate::rows::latest;
@@ -53,7 +53,7 @@ pub(crate) fn first_late<R: Rule, I: Inspection>(
     done: &mut [u32],
     finish: &mut [u32],
 ) -> Option<u32>
-    requires waiting { All Searchable waiting.now }
+    requires waiting { AllByRecursion Searchable waiting.now }
     requires room { length waiting.now ≤ length finishes.old }
     requires path { path.state < (R.Rule.model rule.now).size }
     requires long { length powers.now ≡ 3584 }

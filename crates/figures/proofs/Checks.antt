@@ -1,7 +1,7 @@
 -- The test of a row, and that a row that passes it is right.
 use Rattle.std.proofs.Common.{◌≡◌, ℕ, zero, suc, ◌<◌, ◌≤◌, max, Bool, true, false, ◌&&◌, eqb, ltb, leb, List, [], ◌∷◌, length, get_or, refl, ap, ◌∙◌, subst, inl, inr, arith}
 use mathlib.Core.Path.{subst⁻¹}
-use Rattle.std.specs.List.{AllByRecursion as All}
+use Rattle.std.specs.List.{AllByRecursion}
 use Rattle.std.proofs.lemmas.Bool.{and_parts, cases_lt, false≢true, leb-true, ltb-true, eqb-true}
 use Rattle.std.proofs.lemmas.Bool.Decides.{nat_tests}
 use Rattle.calls.specs.declared.call.Job.{Job}
@@ -41,13 +41,13 @@ abbrev pub all_long : List (ℕ × ℕ) → Bool
 all_long [] = true
 all_long ((release, p) ∷ js) = leb 1 p && all_long js
 
-long_from : (t : ℕ) (js : List (ℕ × ℕ)) → all_long js ≡ true → All (λ j. 1 ≤ j.length) (jobs_from t js)
+long_from : (t : ℕ) (js : List (ℕ × ℕ)) → all_long js ≡ true → AllByRecursion (λ j. 1 ≤ j.length) (jobs_from t js)
 long_from t [] h = tt
 long_from t ((release, p) ∷ js) h =
     let parts = and_parts (leb 1 p) (all_long js) h in
     (leb-true 1 p parts.0, long_from (suc t) js parts.1)
 
-other_tickets : (t u : ℕ) (js : List (ℕ × ℕ)) → u < t → All (λ k. u ≡ k.ticket → ⊥) (jobs_from t js)
+other_tickets : (t u : ℕ) (js : List (ℕ × ℕ)) → u < t → AllByRecursion (λ k. u ≡ k.ticket → ⊥) (jobs_from t js)
 other_tickets t u [] h = tt
 other_tickets t u ((release, p) ∷ js) h = (λ e. omega arith, other_tickets (suc t) u js (omega arith))
 
@@ -76,7 +76,7 @@ none_over_pairs (x ∷ xs) (y ∷ ys) h =
     let parts = and_parts (leb x y) (none_over xs ys) h in
     (leb-true x y parts.0, none_over_pairs xs ys parts.1)
 
-up_to_all : (n : ℕ) (xs ys : List ℕ) → Pairs UpTo xs ys → All (λ y. y ≤ n) ys → All (λ x. x ≤ n) xs
+up_to_all : (n : ℕ) (xs ys : List ℕ) → Pairs UpTo xs ys → AllByRecursion (λ y. y ≤ n) ys → AllByRecursion (λ x. x ≤ n) xs
 up_to_all n [] ys p a = tt
 up_to_all n (x ∷ xs) [] p a = absurd p
 up_to_all n (x ∷ xs) (y ∷ ys) p a = (omega (arith, p.0, a.0), up_to_all n xs ys p.1 a.1)

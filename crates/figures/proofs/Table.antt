@@ -1,6 +1,6 @@
 -- The figures: one test over both tables, which computes.
 use Rattle.std.proofs.Common.{◌≡◌, Bool, true, ◌&&◌, List, [], ◌∷◌, refl}
-use Rattle.std.specs.List.{AllByRecursion as All}
+use Rattle.std.specs.List.{AllByRecursion}
 use Rattle.std.proofs.lemmas.Bool.{and_parts}
 use Rattle.figures.specs.Rows.{WorstRight, FinishRight}
 use Rattle.figures.specs.Figures.{worst_rows, finish_rows, WorstFigures, FinishFigures}
@@ -12,7 +12,7 @@ all_pass test [] = true
 all_pass test (row ∷ rows) = test row && all_pass test rows
 
 all_right : {A : Type 0} (test : A → Bool) (Right : A → Type 0) → ((row : A) → test row ≡ true → Right row) →
-    (rows : List A) → all_pass test rows ≡ true → All Right rows
+    (rows : List A) → all_pass test rows ≡ true → AllByRecursion Right rows
 all_right test Right right [] h = tt
 all_right test Right right (row ∷ rows) h =
     let parts = and_parts (test row) (all_pass test rows) h in

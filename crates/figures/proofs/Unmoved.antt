@@ -1,6 +1,6 @@
 -- Faults after the finishes do not move them.
 use Rattle.std.proofs.Common.{◌≡◌, ℕ, ◌+◌, ◌-◌, ◌≤◌, max, List, [], ◌∷◌, ◌++◌, sym, refl, ap, ◌∙◌, inl, inr, arith}
-use Rattle.std.specs.List.{AllByRecursion as All}
+use Rattle.std.specs.List.{AllByRecursion}
 use Rattle.std.proofs.lemmas.Bool.{cases_lt}
 use Rattle.inspections.specs.Verdict.{Verdict}
 use Rattle.schedules.specs.Runs.{completion, finishes, Slot}
@@ -23,7 +23,7 @@ module _ (V : Verdict) (N : ℕ) (h : List ℕ) (beyond : Beyond N h) where
     ]
   ]
 
-  pub finishes_unmoved : (T : ℕ) (js : List Slot) (g : List ℕ) → All (λ q. q ≤ N) (finishes V T js g) → finishes V T js (g ++ h) ≡ finishes V T js g
+  pub finishes_unmoved : (T : ℕ) (js : List Slot) (g : List ℕ) → AllByRecursion (λ q. q ≤ N) (finishes V T js g) → finishes V T js (g ++ h) ≡ finishes V T js g
   finishes_unmoved T [] g by = refl
   finishes_unmoved T (j ∷ js) g by =
       let same = completion_unmoved j.run (max j.start T) g by.0 in

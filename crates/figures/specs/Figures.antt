@@ -1,6 +1,6 @@
 -- The worked figures: two tables, and that each of their rows is right.
 use Rattle.std.specs.Prelude.{ℕ, List, [], ◌∷◌}
-use Rattle.std.specs.List.{AllByRecursion as All}
+use Rattle.std.specs.List.{AllByRecursion}
 use Rattle.figures.specs.Rows.{WorstRow, FinishRow, WorstRight, FinishRight, count_of, gap_of, count_and_gap, at_the_end, at_the_fault, worst_row, finish_row}
 
 -- jobs of these lengths, all released at 0
@@ -40,8 +40,8 @@ finish_rows =
 
 -- every row of worst finishes is right
 abbrev pub WorstFigures : Type 0
-WorstFigures = All WorstRight worst_rows
+WorstFigures = AllByRecursion WorstRight worst_rows
 
 -- every row of finishes is right
 abbrev pub FinishFigures : Type 0
-FinishFigures = All FinishRight finish_rows
+FinishFigures = AllByRecursion FinishRight finish_rows

@@ -1,7 +1,7 @@
 -- Every call has an answer: over the finitely many allowed lists of faults the worst finish is found.
 use Rattle.std.proofs.Common.{◌≡◌, ℕ, zero, suc, ◌+◌, ◌-◌, ◌<◌, ◌≤◌, ◌⊎◌, List, [], ◌∷◌, ◌++◌, length, get_or, Some, None, Option, sym, refl, ap, ◌∙◌, subst, inl, inr, arith}
 use mathlib.Core.Path.{subst⁻¹}
-use Rattle.std.specs.List.{AllByRecursion as All}
+use Rattle.std.specs.List.{AllByRecursion}
 use Rattle.std.proofs.ByRecursion.{All-from_get_or}
 use Rattle.std.proofs.lemmas.Bool.{cases_lt, cases_eq}
 use Rattle.rules.specs.Model.{Model, Laws, cleans}
@@ -68,7 +68,7 @@ limits_decided j =
     ]
 
 -- the first of which P holds, if it holds of any
-first_or_none : (P : Job → Type 0) (js : List Job) → All (λ j. Decided (P j)) js → ((t : ℕ) × First P (λ j. j.ticket ≡ t) js) ⊎ (Any P js → ⊥)
+first_or_none : (P : Job → Type 0) (js : List Job) → AllByRecursion (λ j. Decided (P j)) js → ((t : ℕ) × First P (λ j. j.ticket ≡ t) js) ⊎ (Any P js → ⊥)
 first_or_none P [] d = inr (λ a. a)
 first_or_none P (j ∷ js) d = go d.0 (first_or_none P js d.1)
   where

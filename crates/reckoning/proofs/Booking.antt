@@ -1,6 +1,6 @@
 -- The board with one more job.
 use Rattle.std.proofs.Common.{◌≡◌, ℕ, zero, suc, ◌+◌, ◌-◌, ◌<◌, ◌≤◌, List, [], ◌∷◌, ◌++◌, length, Some, None, Option, sym, refl, ap, subst, inl, inr, arith}
-use Rattle.std.specs.List.{AllByRecursion as All}
+use Rattle.std.specs.List.{AllByRecursion}
 use Rattle.std.proofs.ByRecursion.{All-weaker}
 use Rattle.std.proofs.lemmas.Bool.{cases_lt}
 use Rattle.rules.specs.Model.{Model, Laws}
@@ -23,12 +23,12 @@ use Rattle.schedules.proofs.Decides.{decides}
 use Rattle.schedules.proofs.Times.{InTime, in_time_kept}
 use Rattle.schedules.proofs.Completion.{completion_grows}
 
-pub proposed_all : (P : Job → Type 0) (n : ℕ) (j : Job) (ws : List Job) → P j → All P ws → All P (proposed n j ws)
+pub proposed_all : (P : Job → Type 0) (n : ℕ) (j : Job) (ws : List Job) → P j → AllByRecursion P ws → AllByRecursion P (proposed n j ws)
 proposed_all P zero j ws p a = (p, a)
 proposed_all P (suc n) j [] p a = (p, tt)
 proposed_all P (suc n) j (k ∷ ws) p a = (a.0, proposed_all P n j ws p a.1)
 
-proposed_distinct : (n : ℕ) (j : Job) (ws : List Job) → Distinct ws → All (λ k. k.ticket ≡ j.ticket → ⊥) ws → Distinct (proposed n j ws)
+proposed_distinct : (n : ℕ) (j : Job) (ws : List Job) → Distinct ws → AllByRecursion (λ k. k.ticket ≡ j.ticket → ⊥) ws → Distinct (proposed n j ws)
 proposed_distinct zero j ws d a = (All-weaker (λ k. k.ticket ≡ j.ticket → ⊥) (λ k. j.ticket ≡ k.ticket → ⊥) (λ k h e. h (sym e)) ws a, d)
 proposed_distinct (suc n) j [] d a = (tt, tt)
 proposed_distinct (suc n) j (k ∷ ws) d a = (proposed_all (λ x. k.ticket ≡ x.ticket → ⊥) n j ws a.0 d.0, proposed_distinct n j ws d.1 a.1)
@@ -38,12 +38,12 @@ length_proposed zero j ws = refl
 length_proposed (suc n) j [] = refl
 length_proposed (suc n) j (k ∷ ws) = ap suc (length_proposed n j ws)
 
-board_proposed_all : (P : Job → Type 0) (machine : Option Run) (n : ℕ) (j : Job) (ws : List Job) → P j → All P (on_machine machine ++ ws) → All P (on_machine machine ++ proposed n j ws)
+board_proposed_all : (P : Job → Type 0) (machine : Option Run) (n : ℕ) (j : Job) (ws : List Job) → P j → AllByRecursion P (on_machine machine ++ ws) → AllByRecursion P (on_machine machine ++ proposed n j ws)
 board_proposed_all P None n j ws p a = proposed_all P n j ws p a
 board_proposed_all P (Some r) n j ws p a = (a.0, proposed_all P n j ws p a.1)
 
 board_proposed_distinct : (machine : Option Run) (n : ℕ) (j : Job) (ws : List Job) → Distinct (on_machine machine ++ ws) →
-    All (λ k. k.ticket ≡ j.ticket → ⊥) (on_machine machine ++ ws) → Distinct (on_machine machine ++ proposed n j ws)
+    AllByRecursion (λ k. k.ticket ≡ j.ticket → ⊥) (on_machine machine ++ ws) → Distinct (on_machine machine ++ proposed n j ws)
 board_proposed_distinct None n j ws d a = proposed_distinct n j ws d a
 board_proposed_distinct (Some r) n j ws d a = (proposed_all (λ x. r.job.ticket ≡ x.ticket → ⊥) n j ws a.0 d.0, proposed_distinct n j ws d.1 a.1)
 
@@ -76,7 +76,7 @@ module _ (m : Model) (laws : Laws m) (V : Verdict) (bounded : Bounded V) (w : Wo
   earliest_times None f late = earliest_same V bounded w.clock w.clock jobs f late
   earliest_times (Some r) f late = ap (λ l. free V w.clock (Some r) f ∷ l) (earliest_same V bounded w.clock (free V w.clock (Some r) f) jobs f late)
 
-  pub in_time_unless_every_plan_fails : (EveryPlanFails m V w jobs → ⊥) → (f : List ℕ) → Allowed m w.state w.clock f → All (OnTime V f (with_waiting w jobs)) (board (with_waiting w jobs))
+  pub in_time_unless_every_plan_fails : (EveryPlanFails m V w jobs → ⊥) → (f : List ℕ) → Allowed m w.state w.clock f → AllByRecursion (OnTime V f (with_waiting w jobs)) (board (with_waiting w jobs))
   in_time_unless_every_plan_fails some f a =
       let xs = on_machine w.machine ++ jobs in
       let first = earliest w.clock jobs in

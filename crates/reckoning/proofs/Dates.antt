@@ -1,7 +1,7 @@
 -- Dates are kept: what becomes of each job that was booked.
 use Rattle.std.proofs.Common.{◌≡◌, ℕ, ◌<◌, ◌⊎◌, List, [], ◌∷◌, ◌++◌, length, Some, None, Option, sym, refl, ap, subst, inl, inr, arith}
 use mathlib.Core.Path.{subst⁻¹}
-use Rattle.std.specs.List.{AllByRecursion as All}
+use Rattle.std.specs.List.{AllByRecursion}
 use Rattle.std.proofs.ByRecursion.{All-weaker}
 use Rattle.std.proofs.lemmas.Bool.{cases_eq}
 use Rattle.rules.specs.Model.{Model, Laws}
@@ -28,7 +28,7 @@ use Rattle.calls.specs.declared.refusal.Refusal.TheVariants.{BoardFull, ClockEnd
 use Rattle.calls.specs.declared.refusal.Refusal.{Refusal}
 
 -- every job on the board has time left
-pub due_ahead : (m : Model) (V : Verdict) (w : World) → Sound m V w → All (λ j. w.clock < j.due) (board w)
+pub due_ahead : (m : Model) (V : Verdict) (w : World) → Sound m V w → AllByRecursion (λ j. w.clock < j.due) (board w)
 due_ahead m V w sound =
     All-weaker (OnTime V [] w) (λ j. w.clock < j.due) (λ j (q, ((n, at, _), _), by). omega arith) (board w) (sound.kept [] tt)
 
@@ -58,7 +58,7 @@ spoiled_not_clean e = let z : ◌≡◌ {A = ℕ} 0 1 = cc in omega arith
 
 -- the job is on the board still, and its run so far are the last quarters
 abbrev Still : Job → List Entry → World → Type 0
-Still j later w = On j (board w) × All (λ x. Leaves j.ticket x → ⊥) later × Progress j (quarters later) w.machine
+Still j later w = On j (board w) × AllByRecursion (λ x. Leaves j.ticket x → ⊥) later × Progress j (quarters later) w.machine
 
 abbrev Track : Job → List Entry → List Entry → World → Type 0
 Track j later earlier w = Still j later w ⊎ (WasWithdrawn j later ⊎ WasFinished j later earlier)

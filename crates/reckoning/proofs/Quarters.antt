@@ -1,7 +1,7 @@
 -- A board after one quarter more.
 use Rattle.std.proofs.Common.{◌≡◌, ℕ, suc, ◌-◌, ◌<◌, ◌≤◌, ◌⊎◌, List, [], ◌∷◌, length, Some, ap, ◌∙◌, subst, inl, inr, arith}
 use mathlib.Core.Path.{subst⁻¹}
-use Rattle.std.specs.List.{AllByRecursion as All}
+use Rattle.std.specs.List.{AllByRecursion}
 use Rattle.rules.specs.Model.{Model, Laws, cleans}
 use Rattle.rules.specs.Faults.{Allowed, Increasing}
 use Rattle.inspections.specs.Verdict.{Verdict, Bounded}
@@ -31,8 +31,8 @@ module _ (V : Verdict) (bounded : Bounded V) (k : Kind) (w : World) (ready : Rea
   pub jobs_after : (board after ≡ board w) ⊎ ((j : Job) × (board w ≡ j ∷ board after))
   jobs_after = elim (moves [] tt) [ inl (never, jobs, times) ↦ inl jobs | inr (j, done, jobs, times) ↦ inr (j, jobs) ]
 
-  pub after_all : (P : Job → Type 0) → All P (board w) → All P (board after)
-  after_all P a = elim (jobs_after) [ inl jobs ↦ subst⁻¹ (All P) jobs a | inr (j, jobs) ↦ (subst (All P) jobs a).1 ]
+  pub after_all : (P : Job → Type 0) → AllByRecursion P (board w) → AllByRecursion P (board after)
+  after_all P a = elim (jobs_after) [ inl jobs ↦ subst⁻¹ (AllByRecursion P) jobs a | inr (j, jobs) ↦ (subst (AllByRecursion P) jobs a).1 ]
 
   after_distinct : Distinct (board w) → Distinct (board after)
   after_distinct a = elim (jobs_after) [ inl jobs ↦ subst⁻¹ Distinct jobs a | inr (j, jobs) ↦ (subst Distinct jobs a).1 ]

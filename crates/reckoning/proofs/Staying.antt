@@ -1,6 +1,6 @@
 -- A job on the board stays there where one more is put in, or another is taken out.
 use Rattle.std.proofs.Common.{◌≡◌, ℕ, zero, suc, eqb, List, [], ◌∷◌, ◌++◌, Some, None, Option, sym, refl, ap, ◌∙◌, subst, inl, inr}
-use Rattle.std.specs.List.{AllByRecursion as All}
+use Rattle.std.specs.List.{AllByRecursion}
 use Rattle.std.proofs.lemmas.Bool.{cond_both, eqb-true}
 use Rattle.schedules.specs.Lists.{Any}
 use Rattle.calls.specs.declared.call.Job.{Job}
@@ -20,7 +20,7 @@ proposed_new P zero j ws p = inl p
 proposed_new P (suc n) j [] p = inl p
 proposed_new P (suc n) j (k ∷ ws) p = inr (proposed_new P n j ws p)
 
-pub on_all : (P : Job → Type 0) (j : Job) (js : List Job) → All P js → On j js → P j
+pub on_all : (P : Job → Type 0) (j : Job) (js : List Job) → AllByRecursion P js → On j js → P j
 on_all P j [] a on = absurd on
 on_all P j (k ∷ js) a (inl is) = subst P is a.0
 on_all P j (k ∷ js) a (inr on) = on_all P j js a.1 on

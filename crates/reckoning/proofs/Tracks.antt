@@ -1,7 +1,7 @@
 -- One job through one quarter: whether it is finished, and how far its run has come.
-use Rattle.std.proofs.Common.{◌≡◌, ℕ, suc, ◌-◌, eqb, leb, ◌⊎◌, List, [], ◌∷◌, ◌++◌, length, take, replicate, Some, None, Option, sym, refl, ap, ◌∙◌, ap₂, inl, inr, arith}
+use Rattle.std.proofs.Common.{◌≡◌, ℕ, suc, ◌-◌, eqb, leb, ◌⊎◌, List, [], ◌∷◌, ◌++◌, take, replicate, Some, None, Option, sym, refl, ap, ◌∙◌, ap₂, inl, inr, arith}
 use mathlib.Core.Path.{subst⁻¹}
-use Rattle.std.specs.List.{AllByRecursion as All}
+use Rattle.std.specs.List.{AllByRecursion}
 use Rattle.std.proofs.lemmas.Bool.{cases_lt, cases_eq, cond-true, cond-false, eq-eqb, ne_eqb, le-leb, lt-leb}
 use Rattle.inspections.specs.Verdict.{Verdict}
 use Rattle.schedules.specs.Lists.{Any}
@@ -34,7 +34,7 @@ Tracked j quarters k machine event ws =
     ⊎ ((k ≡ Clean) × (event ≡ Finished j.ticket)
     × (take j.length ((Clean, Finished j.ticket) ∷ quarters) ≡ (Clean, Finished j.ticket) ∷ replicate (j.length - 1) (Clean, Running j.ticket)))
 
-other_than : (x j : Job) (js : List Job) → All (λ k. x.ticket ≡ k.ticket → ⊥) js → On j js → x.ticket ≡ j.ticket → ⊥
+other_than : (x j : Job) (js : List Job) → AllByRecursion (λ k. x.ticket ≡ k.ticket → ⊥) js → On j js → x.ticket ≡ j.ticket → ⊥
 other_than x j [] a on e = on
 other_than x j (k ∷ js) a (inl is) e = a.0 (e ∙ sym (ap (λ y. y.ticket) is))
 other_than x j (k ∷ js) a (inr on) e = other_than x j js a.1 on e

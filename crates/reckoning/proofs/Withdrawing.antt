@@ -15,7 +15,7 @@ use Rattle.schedules.specs.Theorems.{Removed}
 use Rattle.schedules.specs.Walk.{Finish, Gives, OnTime}
 use Rattle.schedules.specs.World.{WithinLimits, World, board, nobody, with_waiting, without}
 use Rattle.std.proofs.ByRecursion.{All-from_get_or, All-get_or}
-use Rattle.std.specs.List.{AllByRecursion as All}
+use Rattle.std.specs.List.{AllByRecursion}
 
 module _ (m : Model) (laws : Laws m) (V : Verdict) (bounded : Bounded V) (w : World) (t : ℕ) (sound : Sound m V w) where
   abbrev after : World
@@ -41,7 +41,7 @@ module _ (m : Model) (laws : Laws m) (V : Verdict) (bounded : Bounded V) (w : Wo
       (All-get_or WithinLimits (board after) i nobody h (withdrawn_all WithinLimits w.machine t w.waiting sound.right.limits))
       (λ g b. All-get_or (OnTime V g w) (board after) i nobody h (withdrawn_all (OnTime V g w) w.machine t w.waiting (sound.kept g b)))
 
-  pub withdrawn_kept : (f : List ℕ) → Allowed m w.state w.clock f → All (OnTime V f after) (board after)
+  pub withdrawn_kept : (f : List ℕ) → Allowed m w.state w.clock f → AllByRecursion (OnTime V f after) (board after)
   withdrawn_kept f a =
       All-from_get_or (OnTime V f after) (board after) nobody (λ i h.
       let increasing = allowed_increasing m w.state w.clock f a in
@@ -51,7 +51,7 @@ module _ (m : Model) (laws : Laws m) (V : Verdict) (bounded : Bounded V) (w : Wo
       let (g, b, r, there, no_later, by) = still_at i h f a q ends in
       (q, ends, omega arith))
 
-  not_delayed : All (NotDelayed m V w after) (board after)
+  not_delayed : AllByRecursion (NotDelayed m V w after) (board after)
   not_delayed =
       All-from_get_or (NotDelayed m V w after) (board after) nobody (λ i h f a q ends.
       let (g, b, r, there, no_later, by) = still_at i h f a q ends in

@@ -1,6 +1,6 @@
 -- What a log tells of a job that was booked. Logs have the newest entry first.
 use Rattle.std.specs.Prelude.{◌≡◌, ℕ, ◌-◌, ◌≤◌, ◌⊎◌, List, [], ◌∷◌, ◌++◌, length, take, replicate}
-use Rattle.std.specs.List.{AllByRecursion as All}
+use Rattle.std.specs.List.{AllByRecursion}
 use Rattle.schedules.specs.Lists.{Any}
 use Rattle.calls.specs.declared.call.Job.{Job}
 use Rattle.schedules.specs.World.{World, board}
@@ -46,7 +46,7 @@ finishing j = record { call = pass; answer = Quarter (Finished j.ticket) }
 
 -- the entry is in the log after the booking, and is the first by which the job leaves
 abbrev pub LeftBy : Job → Entry → List Entry → List Entry → Type 0
-LeftBy j e before later = ((after : List Entry) × (later ≡ after ++ (e ∷ before))) × All (λ x. Leaves j.ticket x → ⊥) before
+LeftBy j e before later = ((after : List Entry) × (later ≡ after ++ (e ∷ before))) × AllByRecursion (λ x. Leaves j.ticket x → ⊥) before
 
 -- the last quarters, as many as the job is long, are clean ones of one run that ends with the job finished
 abbrev pub WholeRun : Job → List Entry → Type 0
@@ -54,7 +54,7 @@ WholeRun j log = take j.length (quarters log) ≡ (Clean, Finished j.ticket) ∷
 
 -- on the board, and not left since the booking
 abbrev pub StillThere : Job → List Entry → World → Type 0
-StillThere j later w = Any (λ k. k ≡ j) (board w) × All (λ x. Leaves j.ticket x → ⊥) later
+StillThere j later w = Any (λ k. k ≡ j) (board w) × AllByRecursion (λ x. Leaves j.ticket x → ⊥) later
 
 abbrev pub WasWithdrawn : Job → List Entry → Type 0
 WasWithdrawn j later = (before : List Entry) × LeftBy j (withdrawal j) before later

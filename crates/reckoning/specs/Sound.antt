@@ -6,7 +6,7 @@ use Rattle.rules.specs.Model.{Model}
 use Rattle.schedules.specs.Ready.{Right}
 use Rattle.schedules.specs.Walk.{OnTime}
 use Rattle.schedules.specs.World.{World, board}
-use Rattle.std.specs.List.{AllByRecursion as All}
+use Rattle.std.specs.List.{AllByRecursion}
 
 -- A world as every log leads to.
 pub record Sound (m : Model) (V : Verdict) (w : World) : Type 0 where
@@ -17,4 +17,4 @@ pub record Sound (m : Model) (V : Verdict) (w : World) : Type 0 where
   pub right : Right w
   pub few : length (board w) ≤ 24
   -- nobody can be late under any list that is still allowed
-  pub kept : (f : List ℕ) → Allowed m w.state w.clock f → All (OnTime V f w) (board w)
+  pub kept : (f : List ℕ) → Allowed m w.state w.clock f → AllByRecursion (OnTime V f w) (board w)

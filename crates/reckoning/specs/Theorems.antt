@@ -1,6 +1,6 @@
 -- The statements about logs.
 use Rattle.std.specs.Prelude.{◌≡◌, ℕ, ◌<◌, ◌≤◌, ◌↔◌, List, [], ◌∷◌, ◌++◌, map, length}
-use Rattle.std.specs.List.{AllByRecursion as All}
+use Rattle.std.specs.List.{AllByRecursion}
 use Rattle.rules.specs.Model.{Model}
 use Rattle.inspections.specs.Verdict.{Verdict, Bounded}
 use Rattle.calls.specs.declared.call.Call.{Call}
@@ -26,7 +26,7 @@ abbrev pub DatesKept : Model → Type 0
 DatesKept m =
     (V : Verdict) → Bounded V → 0 < m.size → (log : List Entry) (w : World) → Led m V log w →
     (w.clock ≡ length (quarters log))
-    × All (λ j. w.clock < j.due) (board w)
+    × AllByRecursion (λ j. w.clock < j.due) (board w)
     × ((later earlier : List Entry) (room place c : ℕ) (j : Job) → log ≡ later ++ (booking room place j c ∷ earlier) → Fate j later (booking room place j c ∷ earlier) w)
 
 -- nothing but lateness is against the booking
@@ -69,7 +69,7 @@ NotDelayed m V before after j =
 abbrev pub Withdrawing : Model → Type 0
 Withdrawing m =
     (V : Verdict) → Bounded V → (w : World) → Sound m V w → (t : ℕ) →
-    All (NotDelayed m V w (with_waiting w (without t w.waiting))) (board (with_waiting w (without t w.waiting)))
+    AllByRecursion (NotDelayed m V w (with_waiting w (without t w.waiting))) (board (with_waiting w (without t w.waiting)))
 
 -- There is just one answer to each call, and one world that it leads to.
 abbrev pub OneAnswer : Model → Type 0

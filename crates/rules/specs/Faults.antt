@@ -1,6 +1,6 @@
 -- Lists of faults: what a rule allows, and the same in plain words.
 use Rattle.std.specs.Prelude.{◌≡◌, ℕ, ◌-◌, ◌<◌, ◌≤◌, ◌↔◌, List, [], ◌∷◌, Some}
-use Rattle.std.specs.List.{AllByRecursion as All}
+use Rattle.std.specs.List.{AllByRecursion}
 use Rattle.rules.specs.Model.{Model, cleans}
 
 -- The faults f are allowed from the clock c on, in the state s there: each is after the one before it and not after quarter 4096,
@@ -16,7 +16,7 @@ Increasing c (q ∷ f) = (c < q) × Increasing q f
 
 -- no fault is after quarter 4096
 abbrev pub Within : List ℕ → Type 0
-Within f = All (λ q. q ≤ 4096) f
+Within f = AllByRecursion (λ q. q ≤ 4096) f
 
 -- from its opening state at the clock 0 on, the rule allows exactly the increasing lists up to quarter 4096 that P holds of
 abbrev pub Allows : Model → (List ℕ → Type 0) → Type 0

@@ -1,6 +1,6 @@
 -- The earliest plan, and the board on its own releases.
 use Rattle.std.proofs.Common.{◌≡◌, ℕ, ◌+◌, ◌-◌, ◌<◌, ◌≤◌, ◌↔◌, List, [], ◌∷◌, ◌++◌, length, get_or, Some, None, Option, ap, subst, inl, inr, arith}
-use Rattle.std.specs.List.{AllByRecursion as All}
+use Rattle.std.specs.List.{AllByRecursion}
 use Rattle.std.proofs.ByRecursion.{All-from_get_or, All-weaker}
 use Rattle.rules.specs.Model.{Model}
 use Rattle.rules.specs.Faults.{Increasing}
@@ -22,12 +22,12 @@ use Rattle.schedules.proofs.Planned.{allowed_increasing, earliest_plan, earliest
 
 module _ {A : Type 0} where
   -- P and P' hold of the same elements
-  first_map : (P P' Q : A → Type 0) (xs : List A) → All (λ x. P x ↔ P' x) xs → First P Q xs → First P' Q xs
+  first_map : (P P' Q : A → Type 0) (xs : List A) → AllByRecursion (λ x. P x ↔ P' x) xs → First P Q xs → First P' Q xs
   first_map P P' Q [] same f = f
   first_map P P' Q (x ∷ xs) same (inl (p, q)) = inl (same.0.0 p, q)
   first_map P P' Q (x ∷ xs) same (inr (never, f)) = inr (λ p. never (same.0.1 p), first_map P P' Q xs same.1 f)
 
-  turned : (P P' : A → Type 0) (xs : List A) → All (λ x. P x ↔ P' x) xs → All (λ x. P' x ↔ P x) xs
+  turned : (P P' : A → Type 0) (xs : List A) → AllByRecursion (λ x. P x ↔ P' x) xs → AllByRecursion (λ x. P' x ↔ P x) xs
   turned P P' xs same = All-weaker (λ x. P x ↔ P' x) (λ x. P' x ↔ P x) (λ x e. (e.1, e.0)) xs same
 
 module _ (V : Verdict) (bounded : Bounded V) (w : World) (jobs : List Job) (ready : Ready (with_waiting w jobs)) where
@@ -96,10 +96,10 @@ module _ (V : Verdict) (bounded : Bounded V) (w : World) (jobs : List Job) (read
     abbrev InPlan : Job → Type 0
     InPlan j = CanBeLate m V (planned w jobs starts) j
 
-    pub all_late : All (λ j. OnOwn j ↔ InPlan j) all_jobs
+    pub all_late : AllByRecursion (λ j. OnOwn j ↔ InPlan j) all_jobs
     all_late = All-from_get_or (λ j. OnOwn j ↔ InPlan j) all_jobs nobody late_alike
 
-    pub all_worst : All (λ j. (c : ℕ) → WorstFinish m V (with_waiting w jobs) j.ticket c ↔ Worst m V w jobs starts j.ticket c) all_jobs
+    pub all_worst : AllByRecursion (λ j. (c : ℕ) → WorstFinish m V (with_waiting w jobs) j.ticket c ↔ Worst m V w jobs starts j.ticket c) all_jobs
     all_worst = All-from_get_or (λ j. (c : ℕ) → WorstFinish m V (with_waiting w jobs) j.ticket c ↔ Worst m V w jobs starts j.ticket c) all_jobs nobody worst_alike
 
 pub alike : (m : Model) → Alike m
@@ -107,8 +107,8 @@ alike m V bounded w jobs ready =
     let xs = on_machine w.machine ++ jobs in
     let P : Job → Type 0 = CanBeLate m V (with_waiting w jobs) in
     let P' : Job → Type 0 = CanBeLate m V (planned w jobs (earliest w.clock jobs)) in
-    let same : All (λ j. P j ↔ P' j) xs = all_late V bounded w jobs ready m in
-    let back : All (λ j. P' j ↔ P j) xs = turned P P' xs same in (
+    let same : AllByRecursion (λ j. P j ↔ P' j) xs = all_late V bounded w jobs ready m in
+    let back : AllByRecursion (λ j. P' j ↔ P j) xs = turned P P' xs same in (
       λ t. (first_map P P' (λ j. j.ticket ≡ t) xs same, first_map P' P (λ j. j.ticket ≡ t) xs back),
       (
         any_map P P' xs (All-weaker (λ j. P j ↔ P' j) (λ j. P j → P' j) (λ j e. e.0) xs same),

@@ -1,7 +1,7 @@
 -- The walk of a board finishes each job in the quarter that is foreseen.
 use Rattle.std.proofs.Common.{◌≡◌, ℕ, zero, suc, ◌+◌, ◌-◌, ◌<◌, ◌≤◌, max, eqb, List, [], ◌∷◌, ◌++◌, Some, None, Option, refl, ap, ◌∙◌, subst, inl, inr, arith}
 use mathlib.Core.Path.{subst⁻¹}
-use Rattle.std.specs.List.{AllByRecursion as All}
+use Rattle.std.specs.List.{AllByRecursion}
 use Rattle.std.proofs.lemmas.Bool.{cases_lt, cond-true, cond-false, eq-eqb, ne_eqb}
 use Rattle.std.proofs.ByRecursion.{All-weaker}
 use Rattle.inspections.specs.Verdict.{Verdict, Bounded}
@@ -87,8 +87,8 @@ module _ (V : Verdict) where
 
   module _ (bounded : Bounded V) where
     -- every finish that is foreseen is after the clock
-    none_due : (c : ℕ) (machine : Option Run) (ws : List Job) (g : List ℕ) (R : Job → ℕ → Type 0) → RunRight c machine → All Long (on_machine machine ++ ws) →
-        All (λ q. q ≤ c + 0) (foreseen V c machine ws g) → Pairs R (on_machine machine ++ ws) (foreseen V c machine ws g)
+    none_due : (c : ℕ) (machine : Option Run) (ws : List Job) (g : List ℕ) (R : Job → ℕ → Type 0) → RunRight c machine → AllByRecursion Long (on_machine machine ++ ws) →
+        AllByRecursion (λ q. q ≤ c + 0) (foreseen V c machine ws g) → Pairs R (on_machine machine ++ ws) (foreseen V c machine ws g)
     none_due c None [] g R right long within = tt
     none_due c None (j ∷ ws) g R right long within =
         absurd (omega (arith, long.0, within.0, completion_grows V bounded j.length (max j.release c) g))
@@ -101,8 +101,8 @@ module _ (V : Verdict) where
 
     -- the walk under f, where the faults of f after the clock c are those of g
     foretold : (N : ℕ) (f g : List ℕ) (c : ℕ) (machine : Option Run) (ws : List Job) → Increasing c g → ((t : ℕ) → c < t → kind_in f t ≡ kind_in g t) →
-        RunRight c machine → All Long (on_machine machine ++ ws) → Distinct (on_machine machine ++ ws) →
-        All (λ q. q ≤ c + N) (foreseen V c machine ws g) →
+        RunRight c machine → AllByRecursion Long (on_machine machine ++ ws) → Distinct (on_machine machine ++ ws) →
+        AllByRecursion (λ q. q ≤ c + N) (foreseen V c machine ws g) →
         Pairs (Ends V f c machine ws) (on_machine machine ++ ws) (foreseen V c machine ws g)
     foretold zero f g c machine ws i same right long distinct within = none_due c machine ws g _ right long within
     foretold (suc N) f g c machine ws i same right long distinct within =
@@ -119,7 +119,7 @@ module _ (V : Verdict) where
         let right' = quarter_stays_right V bounded K c machine ws right long in
         let jobs' = on_machine m' ++ ws' in
         let times' = foreseen V (suc c) m' ws' a.rest in
-        let rest : All Long jobs' → Distinct jobs' → All (λ q. q ≤ c + suc N) times' → Pairs (Ends V f (suc c) m' ws') jobs' times' =
+        let rest : AllByRecursion Long jobs' → Distinct jobs' → AllByRecursion (λ q. q ≤ c + suc N) times' → Pairs (Ends V f (suc c) m' ws') jobs' times' =
         λ long' distinct' within'.
         foretold N f a.rest (suc c) m' ws' a.increasing (λ t h. same t (omega arith) ∙ a.same t h) right' long' distinct'
         (All-weaker (λ q. q ≤ c + suc N) (λ q. q ≤ suc c + N) (λ q h. omega arith) times' within') in
@@ -127,13 +127,13 @@ module _ (V : Verdict) where
         λ x never q. finish_later f c machine ws x.ticket q never in
         elim moved [
           | inl (never, jobs, times) ↦
-              let found = rest (subst⁻¹ (All Long) jobs long) (subst⁻¹ Distinct jobs distinct) (subst⁻¹ (All (λ q. q ≤ c + suc N)) times within) in
+              let found = rest (subst⁻¹ (AllByRecursion Long) jobs long) (subst⁻¹ Distinct jobs distinct) (subst⁻¹ (AllByRecursion (λ q. q ≤ c + suc N)) times within) in
               let mapped = pairs_map (Ends V f (suc c) m' ws') (Ends V f c machine ws) jobs' times'
               (all_by (λ x. (q : ℕ) → Ends V f (suc c) m' ws' x q → Ends V f c machine ws x q) (λ x. later x (never x.ticket)) jobs') found in
               subst (λ l. Pairs (Ends V f c machine ws) l (foreseen V c machine ws g)) jobs (subst (λ l. Pairs (Ends V f c machine ws) jobs' l) times mapped)
           | inr (j, done, jobs, times) ↦
               let apart = subst Distinct jobs distinct in
-              let found = rest (subst (All Long) jobs long).1 apart.1 (subst (All (λ q. q ≤ c + suc N)) times within).1 in
+              let found = rest (subst (AllByRecursion Long) jobs long).1 apart.1 (subst (AllByRecursion (λ q. q ≤ c + suc N)) times within).1 in
               let mapped = pairs_map (Ends V f (suc c) m' ws') (Ends V f c machine ws) jobs' times'
               (All-weaker (λ x. j.ticket ≡ x.ticket → ⊥) (λ x. (q : ℕ) → Ends V f (suc c) m' ws' x q → Ends V f c machine ws x q)
               (λ x other. later x (λ e. other (other_ticket E j.ticket x.ticket done e))) jobs' apart.0) found in

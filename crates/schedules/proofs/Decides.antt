@@ -1,6 +1,6 @@
 -- The earliest plan decides.
 use Rattle.std.proofs.Common.{◌≡◌, ℕ, zero, suc, ◌<◌, ◌≤◌, ◌⊎◌, List, [], ◌∷◌, ◌++◌, length, get_or, take, Some, None, Option, refl, inl, inr, arith}
-use Rattle.std.specs.List.{AllByRecursion as All}
+use Rattle.std.specs.List.{AllByRecursion}
 use Rattle.std.proofs.ByRecursion.{All-weaker, All-get_or, All-from_get_or}
 use Rattle.rules.specs.Model.{Model, Laws}
 use Rattle.rules.specs.Faults.{Allowed}
@@ -72,7 +72,7 @@ module _ (m : Model) (laws : Laws m) (V : Verdict) (bounded : Bounded V) (w : Wo
       let over : (get_or xs i nobody).due < get_or times' i 0 = elim found.2 [ inl no_earlier ↦ omega arith | inr past ↦ omega arith ] in
       (h, found.1, (get_or times' i 0, foretold', over))
 
-  pub stays_late : All StaysLate (on_machine w.machine ++ jobs)
+  pub stays_late : AllByRecursion StaysLate (on_machine w.machine ++ jobs)
   stays_late = All-from_get_or StaysLate (on_machine w.machine ++ jobs) nobody late_at
 
 pub plan_argument : (m : Model) → Laws m → PlanArgument m

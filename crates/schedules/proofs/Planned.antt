@@ -1,6 +1,6 @@
 -- The finishes in a plan, and in the earliest one.
 use Rattle.std.proofs.Common.{◌≡◌, ℕ, zero, suc, ◌+◌, ◌≤◌, max, List, [], ◌∷◌, ◌++◌, length, take, Some, None, Option, refl, ap, ◌∙◌, inl, inr, arith}
-use Rattle.std.specs.List.{AllByRecursion as All}
+use Rattle.std.specs.List.{AllByRecursion}
 use Rattle.std.proofs.lemmas.Bool.{cases_order}
 use Rattle.std.proofs.ByRecursion.{All-weaker}
 use Rattle.rules.specs.Model.{Model}
@@ -34,7 +34,7 @@ right_ready w right = record { run = right.run; long = All-weaker WithinLimits (
 abbrev moved_to : ℕ → Job → Job
 moved_to s j = record { ticket = j.ticket; release = s; due = j.due; length = j.length }
 
-timed_all : (P : Job → Type 0) → ((j : Job) (s : ℕ) → P j → P (moved_to s j)) → (jobs : List Job) (starts : List ℕ) → All P jobs → All P (timed jobs starts)
+timed_all : (P : Job → Type 0) → ((j : Job) (s : ℕ) → P j → P (moved_to s j)) → (jobs : List Job) (starts : List ℕ) → AllByRecursion P jobs → AllByRecursion P (timed jobs starts)
 timed_all P keeps [] starts a = tt
 timed_all P keeps (j ∷ js) [] a = tt
 timed_all P keeps (j ∷ js) (s ∷ starts) a = (keeps j s a.0, timed_all P keeps js starts a.1)
@@ -45,7 +45,7 @@ timed_distinct (j ∷ js) [] d = tt
 timed_distinct (j ∷ js) (s ∷ starts) d = (timed_all (λ k. j.ticket ≡ k.ticket → ⊥) (λ k n h. h) js starts d.0, timed_distinct js starts d.1)
 
 board_all : (P : Job → Type 0) → ((j : Job) (s : ℕ) → P j → P (moved_to s j)) → (machine : Option Run) (jobs : List Job) (starts : List ℕ) →
-    All P (on_machine machine ++ jobs) → All P (on_machine machine ++ timed jobs starts)
+    AllByRecursion P (on_machine machine ++ jobs) → AllByRecursion P (on_machine machine ++ timed jobs starts)
 board_all P keeps None jobs starts a = timed_all P keeps jobs starts a
 board_all P keeps (Some r) jobs starts a = (a.0, timed_all P keeps jobs starts a.1)
 

@@ -1,6 +1,6 @@
 -- The board without one of the waiting jobs.
 use Rattle.std.proofs.Common.{◌≡◌, ℕ, zero, suc, ◌<◌, ◌≤◌, eqb, ◌⊎◌, List, [], ◌∷◌, ◌++◌, length, get_or, take, Some, None, Option, sym, refl, ap, subst, inl, inr, arith}
-use Rattle.std.specs.List.{AllByRecursion as All}
+use Rattle.std.specs.List.{AllByRecursion}
 use Rattle.std.proofs.ByRecursion.{All-from_get_or}
 use Rattle.std.proofs.lemmas.Bool.{cond_both}
 use Rattle.rules.specs.Model.{Model, Laws}
@@ -23,9 +23,9 @@ use Rattle.schedules.proofs.Planned.{allowed_increasing, least_unique, right_rea
 use Rattle.schedules.proofs.Decides.{length_slots}
 use Rattle.schedules.proofs.Times.{times_of}
 
-pub without_all : (P : Job → Type 0) (t : ℕ) (ws : List Job) → All P ws → All P (without t ws)
+pub without_all : (P : Job → Type 0) (t : ℕ) (ws : List Job) → AllByRecursion P ws → AllByRecursion P (without t ws)
 without_all P t [] a = tt
-without_all P t (j ∷ ws) a = cond_both (eqb j.ticket t) ws (j ∷ without t ws) (All P) (λ e. a.1) (λ e. (a.0, without_all P t ws a.1))
+without_all P t (j ∷ ws) a = cond_both (eqb j.ticket t) ws (j ∷ without t ws) (AllByRecursion P) (λ e. a.1) (λ e. (a.0, without_all P t ws a.1))
 
 without_distinct : (t : ℕ) (ws : List Job) → Distinct ws → Distinct (without t ws)
 without_distinct t [] d = tt
@@ -39,7 +39,7 @@ without_length t (j ∷ ws) =
     cond_both (eqb j.ticket t) ws (j ∷ without t ws) (λ l. length l ≤ suc (length ws)) (λ e. omega arith) (λ e. let h = without_length t ws in omega arith)
 
 -- the board without it
-pub withdrawn_all : (P : Job → Type 0) (machine : Option Run) (t : ℕ) (ws : List Job) → All P (on_machine machine ++ ws) → All P (on_machine machine ++ without t ws)
+pub withdrawn_all : (P : Job → Type 0) (machine : Option Run) (t : ℕ) (ws : List Job) → AllByRecursion P (on_machine machine ++ ws) → AllByRecursion P (on_machine machine ++ without t ws)
 withdrawn_all P None t ws a = without_all P t ws a
 withdrawn_all P (Some r) t ws a = (a.0, without_all P t ws a.1)
 

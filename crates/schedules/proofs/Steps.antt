@@ -1,7 +1,7 @@
 -- One quarter of a board, and what it does to the finishes that are foreseen.
 use Rattle.std.proofs.Common.{◌≡◌, ℕ, suc, ◌+◌, ◌-◌, ◌<◌, ◌≤◌, max, eqb, leb, ◌⊎◌, List, [], ◌∷◌, ◌++◌, Some, None, Option, sym, refl, ap, ◌∙◌, inl, inr, arith}
 use mathlib.Core.Path.{subst⁻¹}
-use Rattle.std.specs.List.{AllByRecursion as All}
+use Rattle.std.specs.List.{AllByRecursion}
 use Rattle.std.proofs.lemmas.Bool.{cases_lt, cases_eq, cond-true, cond-false, cond_both, eqb-false, eq-eqb, ne_eqb, le-leb, lt-leb}
 use Rattle.inspections.specs.Verdict.{Verdict, Bounded}
 use Rattle.schedules.specs.Runs.{completion, finishes, Slot}
@@ -155,7 +155,7 @@ module _ (V : Verdict) (bounded : Bounded V) where
       let lasts = lasts_within bounded j.length (suc gone) (omega arith) (omega arith) in
       hit_stays_right c j gone (V j.length (suc gone)) before (omega arith) (omega arith)
 
-  pub quarter_stays_right : (k : Kind) (c : ℕ) (machine : Option Run) (ws : List Job) → RunRight c machine → All Long (on_machine machine ++ ws) →
+  pub quarter_stays_right : (k : Kind) (c : ℕ) (machine : Option Run) (ws : List Job) → RunRight c machine → AllByRecursion Long (on_machine machine ++ ws) →
       RunRight (suc c) (machine_after V k (started c machine ws))
   quarter_stays_right k c (Some r) ws right long = run_stays_right k c r.job r.gone r.hit right.0 right.1 right.2
   quarter_stays_right k c None [] right long = tt
@@ -167,7 +167,7 @@ module _ (V : Verdict) (bounded : Bounded V) where
   abbrev BoardMoves : Kind → ℕ → List Job → List ℕ → List ℕ → Option Run → List Job → Type 0
   BoardMoves k c jobs times g machine ws = Moved V c (machine_after V k machine) (event_of V k machine) ws jobs times g
 
-  pub quarter_moves : (k : Kind) (c : ℕ) (machine : Option Run) (ws : List Job) (g : List ℕ) → RunRight c machine → All Long (on_machine machine ++ ws) →
+  pub quarter_moves : (k : Kind) (c : ℕ) (machine : Option Run) (ws : List Job) (g : List ℕ) → RunRight c machine → AllByRecursion Long (on_machine machine ++ ws) →
       Increasing (suc c) g →
       Moved V c (machine_after V k (started c machine ws)) (event_of V k (started c machine ws)) (left_waiting c machine ws) (on_machine machine ++ ws)
       (foreseen V c machine ws (shown k c g)) g

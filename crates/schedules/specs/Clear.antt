@@ -3,11 +3,11 @@ use Rattle.std.specs.Prelude.{◌≡◌, ℕ, ◌+◌, ◌*◌, ◌<◌, ◌≤�
 use Rattle.inspections.specs.Verdict.{at_end, at_fault}
 use Rattle.rules.specs.Faults.{Increasing}
 use Rattle.schedules.specs.Runs.{completion}
-use Rattle.std.specs.List.{AllByRecursion as All}
+use Rattle.std.specs.List.{AllByRecursion}
 
 -- no fault in the p quarters up to the clock τ
 abbrev pub Clear : ℕ → ℕ → List ℕ → Type 0
-Clear p τ f = All (λ q. (q + p ≤ τ) ⊎ (τ < q)) f
+Clear p τ f = AllByRecursion (λ q. (q + p ≤ τ) ⊎ (τ < q)) f
 
 -- the least number with the property
 abbrev pub Least : (ℕ → Type 0) → ℕ → Type 0

@@ -55,15 +55,17 @@ FirstLate m V w jobs starts t = First (CanBeLate m V (planned w jobs starts)) (�
 abbrev pub FirstToBeLate : Model → Verdict → World → ℕ → Type 0
 FirstToBeLate m V w t = First (CanBeLate m V w) (λ j. j.ticket ≡ t) (board w)
 
--- the worst finish of the ticket's job: reached under some allowed list, and exceeded under none
+-- the worst finish of the ticket's job on the board: reached under some allowed list, and exceeded under none
 abbrev pub WorstFinish : Model → Verdict → World → ℕ → ℕ → Type 0
 WorstFinish m V w t c =
     ((f : List ℕ) × Allowed m w.state w.clock f × Finish V f w t c)
     × ((f : List ℕ) (q : ℕ) → Allowed m w.state w.clock f → Finish V f w t q → q ≤ c)
 
--- the worst finish in the plan
+-- the worst finish of the ticket's job: reached under some allowed list, and exceeded under none
 abbrev pub Worst : Model → Verdict → World → List Job → List ℕ → ℕ → ℕ → Type 0
-Worst m V w jobs starts t c = WorstFinish m V (planned w jobs starts) t c
+Worst m V w jobs starts t c =
+    ((f : List ℕ) × Allowed m w.state w.clock f × Finish V f (planned w jobs starts) t c)
+    × ((f : List ℕ) (q : ℕ) → Allowed m w.state w.clock f → Finish V f (planned w jobs starts) t q → q ≤ c)
 
 -- the waiting jobs with one more at the place, where 0 is before the first
 abbrev pub proposed : ℕ → Job → List Job → List Job

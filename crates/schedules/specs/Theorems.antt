@@ -10,7 +10,7 @@ use Rattle.schedules.specs.Plans.{CanBeLate, EveryPlanFails, Fails, FailsFor, Fi
 use Rattle.schedules.specs.Ready.{Ready, Right}
 use Rattle.schedules.specs.Walk.{Finish}
 use Rattle.schedules.specs.World.{World, board, with_waiting, without}
-use Rattle.std.specs.List.{AllByRecursion as All}
+use Rattle.std.specs.List.{AllByRecursion}
 
 -- The two grains agree: quarter by quarter, each job is finished in the quarter that the grain of runs foresees, under every list of faults.
 abbrev pub Bridge : Type 0
@@ -38,7 +38,7 @@ Alike m =
     (V : Verdict) → Bounded V → (w : World) (jobs : List Job) → Ready (with_waiting w jobs) →
     ((t : ℕ) → FirstToBeLate m V (with_waiting w jobs) t ↔ FirstLate m V w jobs (earliest w.clock jobs) t)
     × (Any (CanBeLate m V (with_waiting w jobs)) (board (with_waiting w jobs)) ↔ Fails m V w jobs (earliest w.clock jobs))
-    × All (λ j. (c : ℕ) → WorstFinish m V (with_waiting w jobs) j.ticket c ↔ Worst m V w jobs (earliest w.clock jobs) j.ticket c) (board (with_waiting w jobs))
+    × AllByRecursion (λ j. (c : ℕ) → WorstFinish m V (with_waiting w jobs) j.ticket c ↔ Worst m V w jobs (earliest w.clock jobs) j.ticket c) (board (with_waiting w jobs))
 
 -- Whatever finish q an allowed list brings the job in the world after, some allowed list brings it one that is not earlier in the world before, or one that is
 -- after 4096.
@@ -51,4 +51,4 @@ Removed m V before after j =
 abbrev pub Removing : Model → Type 0
 Removing m =
     (V : Verdict) → Bounded V → (w : World) → w.state < m.size → Right w → (t : ℕ) →
-    All (Removed m V w (with_waiting w (without t w.waiting))) (board (with_waiting w (without t w.waiting)))
+    AllByRecursion (Removed m V w (with_waiting w (without t w.waiting))) (board (with_waiting w (without t w.waiting)))

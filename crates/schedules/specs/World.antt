@@ -1,6 +1,6 @@
 -- A board: one machine, a sequence of jobs, and what one quarter does to them. Quarter t ends at the clock t.
-use Rattle.std.specs.Prelude.{◌≡◌, ℕ, suc, ◌<◌, ◌≤◌, cond, List, [], ◌∷◌, ◌++◌, Some, None, Option, ◌==◌, ◌≢◌, nat_le}
-use Rattle.std.specs.List.{AllByRecursion as All}
+use Rattle.std.specs.Prelude.{ℕ, suc, ◌<◌, ◌≤◌, cond, List, [], ◌∷◌, ◌++◌, Some, None, Option, ◌==◌, ◌≢◌, nat_le}
+use Rattle.std.specs.List.{AllByRecursion}
 use Rattle.calls.specs.declared.answer.Event.{Event}
 use Rattle.calls.specs.declared.answer.Event.TheVariants.{Again, Finished, Idle, Running}
 use Rattle.calls.specs.declared.call.Job.{Job}
@@ -97,7 +97,7 @@ WithinLimits j = (1 ≤ j.ticket) × (j.ticket ≤ 9999) × (j.release ≤ 4096)
 -- no two jobs have the same ticket
 abbrev pub Distinct : List Job → Type 0
 Distinct [] = Unit {0}
-Distinct (j ∷ js) = All (λ k. j.ticket ≢ k.ticket) js × Distinct js
+Distinct (j ∷ js) = AllByRecursion (λ k. j.ticket ≢ k.ticket) js × Distinct js
 
 -- a run of which g quarters are gone is given up after more than that, and not after its end
 abbrev pub HitRight : ℕ → ℕ → Option ℕ → Type 0

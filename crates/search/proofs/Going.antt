@@ -1,5 +1,5 @@
 -- Round after round.
-use Rattle.std.proofs.Common.{◌≡◌, ℕ, zero, suc, ◌+◌, ◌-◌, ◌<◌, ◌≤◌, ◌⊎◌, List, get_or, sym, refl, subst, inl, inr, ⊎_elim, arith}
+use Rattle.std.proofs.Common.{ℕ, ◌+◌, ◌-◌, ◌<◌, ◌≤◌, ◌⊎◌, List, get_or, refl, inl, inr, ⊎_elim, arith}
 use Rattle.inspections.specs.Verdict.{Bounded, Verdict}
 use Rattle.rules.specs.Model.{Laws, Model, cleans}
 use Rattle.search.proofs.Cleans.{cleans_keep, cleans_stay}

@@ -78,6 +78,9 @@ fn a_line_of_a_million_bytes(rt: HostRuntime) -> Result<(), Fail> {
     input.extend_from_slice(repeated(heap, b"7", 1_000_000)?.as_slice())?;
     input.extend_from_slice(b"\nP\n")?;
     let written = output(heap, input.as_slice())?;
-    assert_eq!(rt; written.as_slice(), b"1\t0\t2\n2\t15\t1\n3\t0\tI0\n".as_slice());
+    assert_eq!(rt;
+        written.as_slice(),
+        b"1\t0\t2\n2\t15\t1\n3\t0\tI0\n".as_slice()
+    );
     Ok(())
 }

@@ -1,5 +1,5 @@
 -- What `read_call` promises: the call of a line, its one text, and the first field that is wrong.
-use Rattle.std.proofs.Common.{◌≡◌, ℕ, cond, eqb, List, [], ◌∷◌, map, length, Some, None, Ok, decimal, Option, Result, sym, refl, ap, ◌∙◌, ap₂, arith}
+use Rattle.std.proofs.Common.{◌≡◌, ℕ, cond, eqb, List, [], ◌∷◌, map, Some, None, Ok, decimal, Option, Result, sym, refl, ap, ◌∙◌, ap₂, arith}
 use Rattle.calls.specs.declared.call.Call.{Call}
 use Rattle.calls.specs.declared.call.Call.TheVariants.{Book, Pass, Spoil, Withdraw}
 use Rattle.calls.specs.declared.refusal.Refusal.{Refusal}

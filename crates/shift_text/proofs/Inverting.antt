@@ -1,7 +1,7 @@
 -- What a line that says a call has in its fields.
 use Rattle.std.proofs.Common.{◌≡◌, ℕ, ◌<◌, ◌≤◌, Bool, true, false, cond, leb, List, [], ◌∷◌, ◌++◌, length, Some, None, Ok, decimal, Option, Result, sym, refl, ap, ◌∙◌, inl, inr, append-nil, arith}
 use Rattle.std.proofs.lemmas.Bool.{cases_eq, cond-true, le-leb}
-use Rattle.std.specs.List.{AllByRecursion as All}
+use Rattle.std.specs.List.{AllByRecursion}
 use Rattle.calls.specs.declared.refusal.Refusal.{Refusal}
 use Rattle.shift_text.specs.Fields.{Field, beside, fields, first, number, one_byte, onto}
 use Rattle.shift_text.specs.Lines.{at_field, ended, lettered}
@@ -81,11 +81,11 @@ pub lettered_some : (line : List ℕ) (l : ℕ) (fs : List Field) → lettered l
 lettered_some line l fs e = letter_first line l fs (chosen (leb (length line) 80) (first one_byte (fields line)) (l, fs) e)
 
 -- and the other way round, where it is short and no field has a tab
-pub fields_tabs : (f : Field) (fs : List Field) → Whole f → All Whole fs → fields (f ++ tabs fs) ≡ f ∷ fs
+pub fields_tabs : (f : Field) (fs : List Field) → Whole f → AllByRecursion Whole fs → fields (f ++ tabs fs) ≡ f ∷ fs
 fields_tabs f [] w ws = rw append-nil (fields_alone f w)
 fields_tabs f (g ∷ fs) w ws = fields_more f (g ++ tabs fs) w ∙ ap (λ hs. f ∷ hs) (fields_tabs g fs ws.0 ws.1)
 
-pub some_lettered : (l : ℕ) (fs : List Field) → (l ≡ 9 → ⊥) → All Whole fs → length (line_of l fs) ≤ 80 → lettered (line_of l fs) ≡ Some (l, fs)
+pub some_lettered : (l : ℕ) (fs : List Field) → (l ≡ 9 → ⊥) → AllByRecursion Whole fs → length (line_of l fs) ≤ 80 → lettered (line_of l fs) ≡ Some (l, fs)
 some_lettered l fs ne ws short =
     cond-true (leb (length (line_of l fs)) 80) (first one_byte (fields (line_of l fs))) None (le-leb (length (line_of l fs)) 80 short)
     ∙ ap (first one_byte) (fields_tabs (l ∷ []) fs (ne, tt) ws)

@@ -2,7 +2,7 @@
 use Rattle.std.proofs.Common.{◌≡◌, ℕ, Bool, true, false, cond, List, [], ◌∷◌, Some, None, Ok, Option, refl, ap, ◌∙◌, subst, ap₂, inl, inr, arith}
 use Rattle.std.proofs.lemmas.Bool.{eqb-true}
 use Rattle.std.specs.Option.{option_map}
-use Rattle.std.specs.List.{AllByRecursion as All}
+use Rattle.std.specs.List.{AllByRecursion}
 use Rattle.shift_text.specs.declared.choice.FaultRule.{FaultRule}
 use Rattle.shift_text.specs.declared.choice.FaultRule.TheVariants.{Both, Count, Gap}
 use Rattle.shift_text.specs.declared.choice.InspectionKind.{InspectionKind}
@@ -132,6 +132,6 @@ pub says_opening : (o : Opening) → WritableOpening o → opening (opening_text
 says_opening o w =
     let fs = amount_text (count_of o.rule) ∷ amount_text (gap_of o.rule) ∷ (letter_of o.inspection ∷ []) ∷ [] in
     let long = length_tabs fs (short_amount (count_of o.rule) w.0, (short_amount (gap_of o.rule) w.1, (omega arith, tt))) in
-    let wholes : All Whole fs = (whole_amount (count_of o.rule) w.0, (whole_amount (gap_of o.rule) w.1, (whole_letter o.inspection, tt))) in
+    let wholes : AllByRecursion Whole fs = (whole_amount (count_of o.rule) w.0, (whole_amount (gap_of o.rule) w.1, (whole_letter o.inspection, tt))) in
     let read = some_lettered 79 fs (λ e. omega arith) wholes (omega arith) in
     ap (λ l. at_field 1 l opening_by_letter) read ∙ says_opened o w

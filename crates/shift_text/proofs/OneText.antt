@@ -2,7 +2,7 @@
 use Rattle.std.proofs.Common.{◌≡◌, ℕ, suc, ◌*◌, ◌<◌, ◌≤◌, cond, eqb, ◌⊎◌, List, [], ◌∷◌, map, length, Ok, decimal, sym, refl, ap, ◌∙◌, subst, ap₂, inl, inr, arith, length-append}
 use Rattle.std.proofs.lemmas.Fmt.{length-decimal-le}
 use Rattle.std.proofs.lemmas.Bool.{cases_Bool, cond-false, cond-true, eqb-true}
-use Rattle.std.specs.List.{AllByRecursion as All}
+use Rattle.std.specs.List.{AllByRecursion}
 use Rattle.calls.specs.declared.call.Call.{Call}
 use Rattle.calls.specs.declared.call.Call.TheVariants.{Book, Pass, Spoil, Withdraw}
 use Rattle.shift_text.specs.Fields.{Field, first, number}
@@ -84,22 +84,22 @@ Short f = length f ≤ 5
 pub short_decimal : (n : ℕ) → n < 100000 → Short (decimal n)
 short_decimal n small = length-decimal-le 5 n (omega arith) (omega arith) (omega arith)
 
-pub length_tabs : (fs : List Field) → All Short fs → length (tabs fs) ≤ 6 * length fs
+pub length_tabs : (fs : List Field) → AllByRecursion Short fs → length (tabs fs) ≤ 6 * length fs
 length_tabs [] s = omega arith
 length_tabs (f ∷ fs) s = omega (arith, length-append f (tabs fs), length_tabs fs s.1, s.0)
 
 -- numbers that can be written
 abbrev Small : List ℕ → Type 0
-Small ns = All (λ n. n < 100000) ns
+Small ns = AllByRecursion (λ n. n < 100000) ns
 
 abbrev decimals : List ℕ → List Field
 decimals ns = map decimal ns
 
-pub all_whole : (ns : List ℕ) → Small ns → All Whole (decimals ns)
+pub all_whole : (ns : List ℕ) → Small ns → AllByRecursion Whole (decimals ns)
 all_whole [] s = tt
 all_whole (n ∷ ns) s = (whole_decimal n s.0, all_whole ns s.1)
 
-all_short : (ns : List ℕ) → Small ns → All Short (decimals ns)
+all_short : (ns : List ℕ) → Small ns → AllByRecursion Short (decimals ns)
 all_short [] s = tt
 all_short (n ∷ ns) s = (short_decimal n s.0, all_short ns s.1)
 

@@ -4,7 +4,7 @@ use Rattle.std.proofs.lemmas.Fmt.{decimal_digit, digits_decimal, length-decimal-
 use Rattle.std.proofs.lemmas.Str.Parse.{digits_value_short}
 use Rattle.std.proofs.lemmas.Bool.{and_parts, cases_eq, cases_lt, ne_eqb}
 use Rattle.std.proofs.lemmas.Bool.Decides.{nat_tests}
-use Rattle.std.specs.List.{AllByRecursion as All}
+use Rattle.std.specs.List.{AllByRecursion}
 use Rattle.std.specs.Str.{all_ascii_digits}
 use Rattle.std.specs.Char.{is_ascii_digit}
 use Rattle.shift_text.specs.Fields.{Field, beside, fields, first, left, number, onto}
@@ -14,7 +14,7 @@ use Rattle.shift_text.proofs.Spelling.{decimal_number, leads, number_decimal, ow
 
 -- no byte is a tab
 abbrev pub Whole : List ℕ → Type 0
-Whole f = All (λ b. b ≡ 9 → ⊥) f
+Whole f = AllByRecursion (λ b. b ≡ 9 → ⊥) f
 
 pub fields_byte : (b : ℕ) (bs : List ℕ) → (b ≡ 9 → ⊥) → fields (b ∷ bs) ≡ onto b (fields bs)
 fields_byte b bs ne = simp (ne_eqb b 9 ne)

@@ -1,6 +1,6 @@
 -- Calls and openings as text: each has one line that says it.
 use Rattle.std.specs.Prelude.{◌≡◌, ℕ, ◌+◌, ◌<◌, ◌≤◌, ◌↔◌, List, [], ◌∷◌, ◌++◌, map, length, take, Some, None, Ok, Err, decimal, Option, Result}
-use Rattle.std.specs.List.{AllByRecursion as All}
+use Rattle.std.specs.List.{AllByRecursion}
 use Rattle.calls.specs.declared.call.Call.{Call}
 use Rattle.calls.specs.declared.call.Call.TheVariants.{Book, Pass, Spoil, Withdraw}
 use Rattle.calls.specs.declared.refusal.Refusal.{Refusal}
@@ -42,7 +42,7 @@ text c = line_of (letter c) (map decimal (numbers c))
 
 -- the numbers of the call have at most five digits
 abbrev pub Writable : Call → Type 0
-Writable c = All (λ n. n < 100000) (numbers c)
+Writable c = AllByRecursion (λ n. n < 100000) (numbers c)
 
 -- a number in decimal digits, or a hyphen where it is absent
 abbrev pub amount_text : Option ℕ → Field

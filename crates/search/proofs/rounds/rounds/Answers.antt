@@ -1,5 +1,5 @@
 use Rattle.std.proofs.Common.{refl, arith}
-use Rattle.search.proofs.Going.{going_all, going_late, going_more, going_none, going_out}
+use Rattle.search.proofs.Going.{going_all, going_more, going_none, going_out}
 use Rattle.search.proofs.rounds.rounds.Goals as goal
 
 pub loop-round-init : goal.loop-round-init
