@@ -21,8 +21,8 @@ WORDS = [("in-default", "in_default")] + [
 ]
 
 
-def name_recursion():
-    """`AllByRecursion` goes by its own name."""
+def respell_types():
+    """`AllByRecursion` goes by its own name, and a type has no underscore."""
     for folder, dirs, files in os.walk(os.path.join(ROOT, "crates")):
         dirs[:] = [d for d in dirs if d != "out"]
         for f in files:
@@ -30,16 +30,18 @@ def name_recursion():
             if not f.endswith((".rt", ".antt")):
                 continue
             text = open(p, encoding="utf-8").read()
-            if "AllByRecursion as All" not in text:
-                continue
-            new = text.replace("AllByRecursion as All", "AllByRecursion")
-            new = re.sub(r"(?<![\w'-])All(?![\w'-])", "AllByRecursion", new)
-            open(p, "w", encoding="utf-8").write(new)
-            print(p)
+            # A type that the kit's script wrote with an underscore.
+            new = re.sub(r"(?<![\w'-])Goes_on(?![\w'-])", "GoesOn", text)
+            if "AllByRecursion as All" in new:
+                new = new.replace("AllByRecursion as All", "AllByRecursion")
+                new = re.sub(r"(?<![\w'-])All(?![\w'-])", "AllByRecursion", new)
+            if new != text:
+                open(p, "w", encoding="utf-8").write(new)
+                print(p)
 
 
 def main():
-    name_recursion()
+    respell_types()
     for crate in sorted(os.listdir(os.path.join(ROOT, "crates"))):
         top = os.path.join(ROOT, "crates", crate)
         names = set()

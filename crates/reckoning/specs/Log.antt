@@ -43,8 +43,8 @@ one_quarter V kind w state = record {
 }
 
 -- the quarter is answered by its event
-abbrev pub Goes_on : Verdict → Kind → World → ℕ → Answer → World → Type 0
-Goes_on V kind w state answer w' = (answer ≡ Quarter (quarter V kind w.clock w.machine w.waiting).event) × (w' ≡ one_quarter V kind w state)
+abbrev pub GoesOn : Verdict → Kind → World → ℕ → Answer → World → Type 0
+GoesOn V kind w state answer w' = (answer ≡ Quarter (quarter V kind w.clock w.machine w.waiting).event) × (w' ≡ one_quarter V kind w state)
 
 -- a job of the list has the ticket
 abbrev pub HasTicket : ℕ → List Job → Type 0
@@ -62,11 +62,11 @@ RefusesLate m V w jobs answer w' = (t : ℕ) × FirstLate m V w jobs (earliest w
 abbrev pub Reckons : Model → Verdict → World → Asked → Answer → World → Type 0
 Reckons m V w pass answer w' =
     If (w.clock ≡ 4096) (Refuses w answer w' ClockEnded)
-    (Goes_on V Clean w (m.clean w.state) answer w')
+    (GoesOn V Clean w (m.clean w.state) answer w')
 Reckons m V w spoil answer w' =
     If (w.clock ≡ 4096) (Refuses w answer w' ClockEnded)
     (If (m.spoiled w.state ≡ None) (Refuses w answer w' FaultForbidden)
-    ((t : ℕ) × (m.spoiled w.state ≡ Some t) × Goes_on V Spoiled w t answer w'))
+    ((t : ℕ) × (m.spoiled w.state ≡ Some t) × GoesOn V Spoiled w t answer w'))
 Reckons m V w (withdraw t) answer w' =
     If (HasTicket t (board w) → ⊥) (Refuses w answer w' TicketUnknown)
     (If (HasTicket t (on_machine w.machine)) (Refuses w answer w' TicketOnMachine)

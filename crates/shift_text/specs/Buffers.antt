@@ -23,8 +23,8 @@ abbrev pub Holds : Buffer → List ℕ → Type 0
 Holds b line = content b ≡ kept line
 
 -- With the bytes bs more, the buffer goes on from what is kept of a line to what is kept of the line with those bytes.
-abbrev pub Goes_on : Buffer → Buffer → List ℕ → Type 0
-Goes_on before after bs = (line : List ℕ) → Holds before line → Holds after (line ++ bs)
+abbrev pub GoesOn : Buffer → Buffer → List ℕ → Type 0
+GoesOn before after bs = (line : List ℕ) → Holds before line → Holds after (line ++ bs)
 
 -- how many bytes stand before the line feed, if there is one
 abbrev pub before_feed : List ℕ → Option ℕ → ℕ
@@ -40,4 +40,4 @@ FeedAt chunk (Some place) = (place < length chunk) × (slice_index chunk place �
 pub record Fed (before after : Buffer) (chunk : List ℕ) (r : Option ℕ) : Type 0 where
   pub place : FeedAt chunk r
   pub first : (k : ℕ) → k < before_feed chunk r → slice_index chunk k ≢ 10
-  pub taken : Goes_on before after (take (before_feed chunk r) chunk)
+  pub taken : GoesOn before after (take (before_feed chunk r) chunk)

@@ -1,6 +1,6 @@
 // A line that comes byte by byte.
 ghost use Rattle.std.specs.Prelude.{◌≡◌, ◌≤◌, [], ◌∷◌, length};
-ghost use Rattle.shift_text.specs.Buffers.{Fed, Goes_on, Holds, buffer, content, pushed};
+ghost use Rattle.shift_text.specs.Buffers.{Fed, GoesOn, Holds, buffer, content, pushed};
 
 use crate::lines::LONGEST;
 
@@ -36,7 +36,7 @@ impl LineBuffer {
 
     // One byte more.
     pub fn push(&mut self, byte: u8)
-        ensures { Goes_on (buffer self.old.bytes self.old.used) (buffer self.new.bytes self.new.used) (byte ∷ []) }
+        ensures { GoesOn (buffer self.old.bytes self.old.used) (buffer self.new.bytes self.new.used) (byte ∷ []) }
     {
         self.store(byte)
     }
