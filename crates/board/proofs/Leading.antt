@@ -1,6 +1,7 @@
 -- How faults lead on by one quarter.
-use Rattle.std.proofs.Common.{◌≡◌, ℕ, zero, suc, ◌+◌, ◌-◌, ◌<◌, List, [], ◌∷◌, ◌++◌, Some, sym, ap, ◌∙◌, subst, arith}
+use Rattle.std.proofs.Common.{◌≡◌, ℕ, suc, ◌+◌, ◌-◌, ◌<◌, List, [], ◌∷◌, ◌++◌, Some, sym, ap, ◌∙◌, subst, arith}
 use Rattle.board.specs.Faults.{Leads}
+use Rattle.rules.proofs.Cleans.{cleans_stay}
 use Rattle.rules.specs.Faults.{Allowed}
 use Rattle.rules.specs.Model.{Laws, Model, cleans}
 
@@ -36,11 +37,7 @@ allowed_leads m s c d t (q ∷ f) (u, late, by, permitted, rest) (v, late', by',
     allowed_leads m u q d t f rest (subst (λ x. Allowed m x q (f ++ ((d + 1) ∷ []))) same rest')
 
 module _ (m : Model) (laws : Laws m) where
-  cleans_stay : (n s : ℕ) → s < m.size → cleans m n s < m.size
-  cleans_stay zero s h = h
-  cleans_stay (suc n) s h = laws.clean_stays _ (cleans_stay n s h)
-
   pub leads_stay : (s c d t : ℕ) (f : List ℕ) → s < m.size → Leads m s c f d t → t < m.size
-  leads_stay s c d t [] h (past, is) = subst (λ x. x < m.size) (sym is) (cleans_stay (d - c) s h)
+  leads_stay s c d t [] h (past, is) = subst (λ x. x < m.size) (sym is) (cleans_stay m laws (d - c) s h)
   leads_stay s c d t (q ∷ f) h (u, late, by, permitted, rest) =
-      leads_stay u q d t f (laws.spoiled_stays _ u (cleans_stay (q - c - 1) s h) permitted) rest
+      leads_stay u q d t f (laws.spoiled_stays _ u (cleans_stay m laws (q - c - 1) s h) permitted) rest

@@ -1,24 +1,29 @@
 -- What a quarter makes of the faults that a board has seen.
-use Rattle.std.proofs.Common.{◌≡◌, ℕ, ◌+◌, ◌<◌, ltb, List, Some, None, Ok, Err, Option, Result, unwrap_or, sym, refl, ap, ◌∙◌, subst, arith}
+use Rattle.std.proofs.Common.{◌≡◌, ℕ, ◌+◌, ◌<◌, ltb, List, Some, None, Ok, Err, Option, Result, unwrap_or, sym, refl, ap, ◌∙◌, subst₂, arith}
 use Rattle.board.proofs.Leading.{allowed_leads, leads_allowed, leads_clean, leads_spoiled, leads_stay}
 use Rattle.board.specs.Faults.{Seen}
-use Rattle.board.specs.Quarters.{Moment, PassSeen, Quarter, SpoilSeen, SpoiledAfter, before_end, one_more, passed, spoiled, spoiled_to}
+use Rattle.board.specs.Quarters.{Moment, PassSeen, Quarter, SpoilSeen, SpoiledAfter, before_end, ended_in, one_more, passed, spoiled, spoiled_to}
 use Rattle.calls.specs.declared.answer.Event.{Event}
 use Rattle.calls.specs.declared.answer.Event.TheVariants.{Idle}
 use Rattle.calls.specs.declared.refusal.Refusal.{Refusal}
 use Rattle.calls.specs.declared.refusal.Refusal.TheVariants.{FaultForbidden}
 use Rattle.rules.specs.Faults.{Allowed}
-use Rattle.rules.specs.Model.{Laws, Model}
+use Rattle.rules.specs.Model.{Laws, Model, after_spoiled}
+use Rattle.std.specs.Option.{ok_or}
 use Rattle.std.proofs.lemmas.Bool.{cond-true, lt-ltb}
-
-none_some : (v : ℕ) → None ≡ Some v → ⊥
-none_some v e = grind arith
+use Rattle.std.proofs.lemmas.Option.{none-some}
 
 err_ok : ◌≡◌ {A = Result Event Refusal} (Err FaultForbidden) (Ok Idle) → ⊥
 err_ok e = grind arith
 
-subst₂ : (P : ℕ → ℕ → Type 0) {a b c d : ℕ} → a ≡ b → c ≡ d → P a c → P b d
-subst₂ P {a} {b} {c} {d} e k p = subst (P b) k (subst (λ x. P x c) e p)
+-- what the rule permits is what the quarter ends in
+permitted : (w : Moment) (o : Option ℕ) → ended_in w (ok_or o FaultForbidden) ≡ spoiled_to w o
+permitted w None = refl
+permitted w (Some state) = refl
+
+pub ended_spoiled : (m : Model) (w : Moment) (q : Quarter) (o : Option ℕ) (r : Result ℕ Refusal) → o ≡ after_spoiled m w.state → r ≡ ok_or o FaultForbidden →
+    q ≡ before_end w (ended_in w r) → q ≡ spoiled m w
+ended_spoiled m w q o r by is e = e ∙ ap (before_end w) (ap (ended_in w) is ∙ permitted w o ∙ ap (spoiled_to w) by)
 
 module _ (m : Model) (laws : Laws m) where
   -- the state of a board that has seen faults is a state of the rule
@@ -44,7 +49,7 @@ module _ (m : Model) (laws : Laws m) where
   spoiled_by w q f None permitted is seen room =
       let answer : q.answer ≡ Err FaultForbidden = ap (λ (x : Quarter). x.answer) is in
       let never : Allowed m m.opening 0 (one_more f w) → ⊥ = λ a.
-      let v = allowed_leads m m.opening 0 w.clock w.state f seen a in none_some v.0 (sym permitted ∙ v.1) in record {
+      let v = allowed_leads m m.opening 0 w.clock w.state f seen a in none-some v.0 (sym permitted ∙ v.1) in record {
         allowed = (λ e. absurd (err_ok (sym answer ∙ e)), λ a. absurd (never a));
         seen = λ e. absurd (err_ok (sym answer ∙ e));
         forbidden = (λ e. never, λ n. answer);

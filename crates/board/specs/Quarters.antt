@@ -23,6 +23,11 @@ pub record Quarter : Type 0 where
 abbrev pub before_end : Moment → Quarter → Quarter
 before_end w quarter = cond (nat_lt w.clock 4096) quarter (record { answer = Err ClockEnded; after = w })
 
+-- a quarter that ends in the state, or is refused and moves nothing
+abbrev pub ended_in : Moment → Result ℕ Refusal → Quarter
+ended_in w (Ok state) = record { answer = Ok Idle; after = record { clock = w.clock + 1; state = state } }
+ended_in w (Err refusal) = record { answer = Err refusal; after = w }
+
 -- one clean quarter
 abbrev pub passed : Model → Moment → Quarter
 passed m w =

@@ -7,7 +7,7 @@ use calls::Refusal;
 use inspections::Inspection;
 use rules::Rule;
 
-// A board over a fault rule and an inspection.
+// A board over a fault rule and an inspection. The state and the clock stand apart, since `open` promises a value of each.
 #[derive(Drop)]
 pub struct Board<R: Rule, I: Inspection> {
     pub(crate) rule: R,

@@ -1,5 +1,4 @@
-// What a board answers.
-use crate::refusal::Refusal;
+// What a board answers to a call that it carries out. One that it refuses has a `Refusal` for its answer.
 
 // What a quarter brought.
 #[derive(Clone, Copy, PartialEq, Eq, Debug)]
@@ -14,7 +13,7 @@ pub enum Event {
     Finished { ticket: u32 },
 }
 
-// What a board answers to a call.
+// What came of a call.
 #[derive(Clone, Copy, PartialEq, Eq, Debug)]
 pub enum Answer {
     // The booking is taken, with the job's worst finish.
@@ -23,8 +22,6 @@ pub enum Answer {
     Withdrawn,
     // The quarter is over.
     Quarter(Event),
-    // Nothing was done.
-    Refused(Refusal),
 }
 
 // A job's ticket with the quarter of its finish.

@@ -38,7 +38,7 @@ pub enum Refusal {
 }
 
 impl Refusal {
-    // The refusal's number and its detail.
+    // The refusal's number and its detail, as the output of a shift has them: a format that is fixed.
     pub fn code(&self) -> (u32, u32)
         ensures code { (result.0, result.1) ≡ code_of self.now }
         ensures tells { refusal_of result.0 result.1 ≡ Some self.now }

@@ -11,15 +11,11 @@ pub struct AtEnd;
 impl Inspection for AtEnd {
     const LETTER: char = 'H';
 
-    ghost letter = { 72 };
+    ghost LETTER = { 72 };
 
     ghost verdict = { λ _. at_end };
 
     ghost bounded = { Prim.search rules };
-
-    fn sign() -> char {
-        Self::LETTER
-    }
 
     fn given_up_after(&self, length: u32, first_fault: u32) -> u32 {
         if 1 <= first_fault && first_fault <= length {

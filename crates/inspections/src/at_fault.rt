@@ -11,15 +11,11 @@ pub struct AtFault;
 impl Inspection for AtFault {
     const LETTER: char = 'E';
 
-    ghost letter = { 69 };
+    ghost LETTER = { 69 };
 
     ghost verdict = { λ _. at_fault };
 
     ghost bounded = { Prim.search rules };
-
-    fn sign() -> char {
-        Self::LETTER
-    }
 
     fn given_up_after(&self, length: u32, first_fault: u32) -> u32 {
         if 1 <= first_fault && first_fault <= length {

@@ -1,5 +1,5 @@
 -- A list in the first cells of a slice: what it holds, and what an append leaves.
-use Rattle.std.specs.Prelude.{◌≡◌, ℕ, ◌+◌, ◌<◌, ◌≤◌, Bool, true, false, List, [], ◌∷◌, ◌++◌, length, take, drop, Some, None, Ok, Err, Option, Result, slice_index_or}
+use Rattle.std.specs.Prelude.{◌≡◌, ℕ, ◌+◌, ◌<◌, ◌≤◌, List, [], ◌∷◌, ◌++◌, length, take, drop, Some, None, Ok, Err, Option, Result, slice_index_or}
 use Rattle.calls.specs.declared.refusal.Refusal.{Refusal}
 use Rattle.calls.specs.declared.refusal.Refusal.TheVariants.{ListFull}
 
@@ -12,9 +12,9 @@ abbrev pub Whole : {X : Type 0} → ℕ → List X → Type 0
 Whole n xs = n ≤ length xs
 
 -- Writing x behind n elements over the cells xs answers r and leaves the cells ys.
-pub record Wrote {X : Type 0} (n : ℕ) (xs : List X) (x : X) (r : Bool) (ys : List X) : Type 0 where
-  pub room : n < length xs → (r ≡ true) × (content (n + 1) ys ≡ content n xs ++ x ∷ []) × (drop (n + 1) ys ≡ drop (n + 1) xs)
-  pub full : length xs ≤ n → (r ≡ false) × (ys ≡ xs)
+pub record Wrote {X : Type 0} (n : ℕ) (xs : List X) (x : X) (r : Result (Unit {0}) Refusal) (ys : List X) : Type 0 where
+  pub room : n < length xs → (r ≡ Ok tt) × (content (n + 1) ys ≡ content n xs ++ x ∷ []) × (drop (n + 1) ys ≡ drop (n + 1) xs)
+  pub full : length xs ≤ n → (r ≡ Err ListFull) × (ys ≡ xs)
   pub long : length ys ≡ length xs
 
 -- An append of x to n elements over the cells xs answers r and leaves m elements over the cells ys.

@@ -5,16 +5,15 @@ ghost use Rattle.std.specs.Prelude.{◌≡◌};
 use crate::List;
 use calls::Refusal;
 
-// Writes the cell at the index, where there is one.
-fn write_at<T: Copy>(cells: &mut [T], index: usize, x: T) -> bool
+// Writes the cell at the index, or refuses where there is none.
+fn write_at<T: Copy>(cells: &mut [T], index: usize, x: T) -> Result<(), Refusal>
     ensures { Wrote index cells.old x result cells.new }
 {
-    if index < cells.len() {
-        cells[index] = x;
-        true
-    } else {
-        false
+    if index >= cells.len() {
+        return Err(Refusal::ListFull);
     }
+    cells[index] = x;
+    Ok(())
 }
 
 impl<'a, T: Copy> List<'a, T> {
@@ -33,11 +32,8 @@ impl<'a, T: Copy> List<'a, T> {
         ensures list { Appended self.old.len self.old.cells.now x result self.new.len self.new.cells.now }
     {
         let len = self.len;
-        if write_at(self.cells, len, x) {
-            self.len = len + 1;
-            Ok(())
-        } else {
-            Err(Refusal::ListFull)
-        }
+        write_at(self.cells, len, x)?;
+        self.len = len + 1;
+        Ok(())
     }
 }

@@ -8,6 +8,7 @@ mod edits;
 mod reads;
 
 // The first `len` cells hold the elements; the cells beyond belong to the caller.
+// A rule of the project keeps the length beside a slice: the memory is the caller's, and nothing is allocated.
 #[derive(Drop)]
 pub struct List<'a, T> {
     cells: &'a mut [T],

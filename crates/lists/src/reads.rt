@@ -8,8 +8,8 @@ use crate::List;
 fn read_at<T: Copy>(cells: &[T], len: usize, index: usize) -> Option<T>
     ensures { Element (content len cells.now) index result }
 {
-    if index < len && index < cells.len() {
-        Some(cells[index])
+    if index < len {
+        cells.get(index).copied()
     } else {
         None
     }

@@ -1,5 +1,5 @@
 -- Every call has an answer: over the finitely many allowed lists of faults the worst finish is found.
-use Rattle.std.proofs.Common.{◌≡◌, ℕ, zero, suc, ◌+◌, ◌-◌, ◌<◌, ◌≤◌, ◌⊎◌, List, [], ◌∷◌, ◌++◌, length, get_or, Some, None, Option, sym, refl, ap, ◌∙◌, subst, inl, inr, arith}
+use Rattle.std.proofs.Common.{◌≡◌, ℕ, zero, suc, ◌+◌, ◌-◌, ◌<◌, ◌≤◌, ◌⊎◌, List, [], ◌∷◌, ◌++◌, length, get_or, Some, None, Option, Ok, sym, refl, ap, ◌∙◌, subst, inl, inr, arith, Err, Result}
 use mathlib.Core.Path.{subst⁻¹}
 use Rattle.std.specs.List.{AllByRecursion}
 use Rattle.std.proofs.ByRecursion.{All-from_get_or}
@@ -15,7 +15,8 @@ use Rattle.schedules.specs.Walk.{Gives, Finish}
 use Rattle.schedules.specs.Plans.{earliest, timed, planned, CanBeLate, Fails, FirstLate, Worst, proposed}
 use Rattle.reckoning.specs.Log.{Asked, book, withdraw, pass, spoil, HasTicket, Reckons, Entry, opened, Led}
 use Rattle.calls.specs.declared.answer.Answer.{Answer}
-use Rattle.calls.specs.declared.answer.Answer.TheVariants.{Taken, Refused}
+use Rattle.calls.specs.declared.answer.Answer.TheVariants.{Taken}
+use Rattle.calls.specs.declared.refusal.Refusal.{Refusal}
 use Rattle.schedules.specs.Ready.{Right}
 use Rattle.reckoning.specs.Sound.{Sound}
 use Rattle.schedules.specs.Foreseen.{foreseen}
@@ -23,6 +24,7 @@ use Rattle.reckoning.specs.Theorems.{EveryCallAnswered, calls, AnyCalls, with_ro
 use Rattle.schedules.proofs.Lists.{pairs_at}
 use Rattle.schedules.proofs.Planned.{allowed_increasing, least_unique, right_ready, plan_finishes, earliest_plan}
 use Rattle.reckoning.proofs.Booking.{proposed_right, decides_bookings}
+use Rattle.reckoning.proofs.OneAnswer.{same_state}
 use Rattle.reckoning.proofs.Sound.{opened_sound, reckons_sound}
 use Rattle.reckoning.proofs.Staying.{board_proposed_new}
 use Rattle.reckoning.proofs.Tracks.{On}
@@ -109,9 +111,6 @@ module _ (m : Model) where
   none_left g s c over [] a = omega arith
   none_left g s c over (q ∷ f) (t, late, by, permitted, a) = absurd (omega arith)
 
-  same_state : (o : Option ℕ) (s t : ℕ) → o ≡ Some s → o ≡ Some t → s ≡ t
-  same_state o s t p q = cc
-
   no_state : (o : Option ℕ) (t : ℕ) → o ≡ None → o ≡ Some t → ⊥
   no_state o t p q = let z : ◌≡◌ {A = ℕ} 0 1 = cc in omega arith
 
@@ -194,7 +193,7 @@ on_place j (k ∷ js) (inr on) =
 
 module _ (m : Model) (laws : Laws m) (V : Verdict) (bounded : Bounded V) (w : World) (sound : Sound m V w) where
   abbrev Answered : Asked → Type 0
-  Answered call = (answer : Answer) × (w' : World) × Reckons m V w call answer w'
+  Answered call = (answer : Result Answer Refusal) × (w' : World) × Reckons m V w call answer w'
 
   pass_answered : Answered pass
   pass_answered = elim (cases_eq w.clock 4096) [ inl over ↦ (_, _, inl (over, (refl, refl))) | inr early ↦ (_, _, inr (early, (refl, refl))) ]
@@ -225,8 +224,8 @@ module _ (m : Model) (laws : Laws m) (V : Verdict) (bounded : Bounded V) (w : Wo
       let (i, within, is) = on_place j (on_machine w.machine ++ jobs) (board_proposed_new w.machine place j w.waiting) in
       let (c, worst) = worst_at m laws V bounded w jobs sound.in_time right i within in
       elim (first_late_or_none m laws V bounded w jobs sound.in_time right) [
-        | inl (t, late) ↦ (Refused (Late t), w, d.0 t late)
-        | inr holds ↦ (Taken c, with_waiting w jobs, d.1 c holds (subst (λ x. Worst m V w jobs (earliest w.clock jobs) x.ticket c) is worst))
+        | inl (t, late) ↦ (Err (Late t), w, d.0 t late)
+        | inr holds ↦ (Ok (Taken c), with_waiting w jobs, d.1 c holds (subst (λ x. Worst m V w jobs (earliest w.clock jobs) x.ticket c) is worst))
       ]
 
   book_answered : (room place : ℕ) (j : Job) → Answered (book room place j)

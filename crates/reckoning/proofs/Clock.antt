@@ -1,32 +1,31 @@
 -- The clock counts the quarters of the log.
-use Rattle.std.proofs.Common.{◌≡◌, suc, ◌+◌, List, [], ◌∷◌, length, refl, ap, ◌∙◌, inl, inr, arith, length-append}
+use Rattle.std.proofs.Common.{◌≡◌, suc, ◌+◌, List, [], ◌∷◌, length, refl, ap, ◌∙◌, inl, inr, arith, length-append, Err, Result}
 use Rattle.rules.specs.Model.{Model}
 use Rattle.inspections.specs.Verdict.{Verdict}
 use Rattle.schedules.specs.World.{World}
 use Rattle.reckoning.specs.Log.{Asked, book, withdraw, pass, spoil, Reckons, Entry, Led}
 use Rattle.calls.specs.declared.answer.Answer.{Answer}
-use Rattle.calls.specs.declared.answer.Answer.TheVariants.{Refused}
 use Rattle.reckoning.specs.Fates.{said, quarters}
 use Rattle.calls.specs.declared.refusal.Refusal.TheVariants.{BoardFull, ClockEnded, FaultForbidden, Late, OutsideLimits, PlaceTooFar, TableTooShort, TicketOnMachine, TicketTaken, TicketUnknown}
 use Rattle.calls.specs.declared.refusal.Refusal.{Refusal}
 
-said_refused : (call : Asked) (r : Refusal) → said call (Refused r) ≡ []
+said_refused : (call : Asked) (r : Refusal) → said call (Err r) ≡ []
 said_refused pass r = refl
 said_refused spoil r = refl
 said_refused (book room place j) r = refl
 said_refused (withdraw t) r = refl
 
-pub silent : (call : Asked) (answer : Answer) (r : Refusal) → answer ≡ Refused r → said call answer ≡ []
+pub silent : (call : Asked) (answer : Result Answer Refusal) (r : Refusal) → answer ≡ Err r → said call answer ≡ []
 silent call answer r is = ap (said call) is ∙ said_refused call r
 
-refused_clock : (call : Asked) (answer : Answer) (r : Refusal) (v w : World) → answer ≡ Refused r → w ≡ v → w.clock ≡ length (said call answer) + v.clock
+refused_clock : (call : Asked) (answer : Result Answer Refusal) (r : Refusal) (v w : World) → answer ≡ Err r → w ≡ v → w.clock ≡ length (said call answer) + v.clock
 refused_clock call answer r v w is same =
     let none : length (said call answer) ≡ 0 = ap length (silent call answer r is) in
     let clock : w.clock ≡ v.clock = ap (λ x. x.clock) same in
     omega arith
 
 module _ (m : Model) (V : Verdict) where
-  reckons_clock : (v w : World) (call : Asked) (answer : Answer) → Reckons m V v call answer w → w.clock ≡ length (said call answer) + v.clock
+  reckons_clock : (v w : World) (call : Asked) (answer : Result Answer Refusal) → Reckons m V v call answer w → w.clock ≡ length (said call answer) + v.clock
   reckons_clock v w pass answer (inl (_, (is, same))) = refused_clock pass answer ClockEnded v w is same
   reckons_clock v w pass answer (inr (_, (is, next))) =
       let one : length (said pass answer) ≡ 1 = ap (λ a. length (said pass a)) is in

@@ -1,5 +1,5 @@
 -- Dates are kept: what becomes of each job that was booked.
-use Rattle.std.proofs.Common.{◌≡◌, ℕ, ◌<◌, ◌⊎◌, List, [], ◌∷◌, ◌++◌, length, Some, None, Option, sym, refl, ap, subst, inl, inr, arith}
+use Rattle.std.proofs.Common.{◌≡◌, ℕ, ◌<◌, ◌⊎◌, List, [], ◌∷◌, ◌++◌, length, Some, None, Option, sym, refl, ap, subst, inl, inr, arith, Ok, Err, Result}
 use mathlib.Core.Path.{subst⁻¹}
 use Rattle.std.specs.List.{AllByRecursion}
 use Rattle.std.proofs.ByRecursion.{All-weaker}
@@ -16,7 +16,7 @@ use Rattle.calls.specs.declared.answer.Event.TheVariants.{Finished}
 use Rattle.schedules.specs.Walk.{OnTime}
 use Rattle.reckoning.specs.Log.{Asked, book, withdraw, pass, spoil, HasTicket, one_quarter, Reckons, Entry, Led}
 use Rattle.calls.specs.declared.answer.Answer.{Answer}
-use Rattle.calls.specs.declared.answer.Answer.TheVariants.{Taken, Withdrawn, Quarter, Refused}
+use Rattle.calls.specs.declared.answer.Answer.TheVariants.{Taken, Withdrawn, Quarter}
 use Rattle.reckoning.specs.Sound.{Sound}
 use Rattle.reckoning.specs.Fates.{said, quarters, Leaves, booking, withdrawal, finishing, LeftBy, WasWithdrawn, WasFinished}
 use Rattle.reckoning.specs.Theorems.{DatesKept}
@@ -34,23 +34,23 @@ due_ahead m V w sound =
 
 -- answers told apart
 
-refused_stays : (t : ℕ) (r : Refusal) (e : Entry) → e.answer ≡ Refused r → Leaves t e → ⊥
+refused_stays : (t : ℕ) (r : Refusal) (e : Entry) → e.answer ≡ Err r → Leaves t e → ⊥
 refused_stays t r e is (inl (_, out)) = let z : ◌≡◌ {A = ℕ} 0 1 = cc in omega arith
 refused_stays t r e is (inr done) = let z : ◌≡◌ {A = ℕ} 0 1 = cc in omega arith
 
-taken_stays : (t c : ℕ) (e : Entry) → e.answer ≡ Taken c → Leaves t e → ⊥
+taken_stays : (t c : ℕ) (e : Entry) → e.answer ≡ Ok (Taken c) → Leaves t e → ⊥
 taken_stays t c e is (inl (_, out)) = let z : ◌≡◌ {A = ℕ} 0 1 = cc in omega arith
 taken_stays t c e is (inr done) = let z : ◌≡◌ {A = ℕ} 0 1 = cc in omega arith
 
-quarter_stays : (t : ℕ) (event : Event) (e : Entry) → e.answer ≡ Quarter event → (event ≡ Finished t → ⊥) → Leaves t e → ⊥
+quarter_stays : (t : ℕ) (event : Event) (e : Entry) → e.answer ≡ Ok (Quarter event) → (event ≡ Finished t → ⊥) → Leaves t e → ⊥
 quarter_stays t event e is not (inl (_, out)) = let z : ◌≡◌ {A = ℕ} 0 1 = cc in omega arith
 quarter_stays t event e is not (inr done) = not (let same : event ≡ Finished t = cc in same)
 
-withdrawal_stays : (s t : ℕ) (e : Entry) → e.call ≡ withdraw s → e.answer ≡ Withdrawn → (t ≡ s → ⊥) → Leaves t e → ⊥
+withdrawal_stays : (s t : ℕ) (e : Entry) → e.call ≡ withdraw s → e.answer ≡ Ok Withdrawn → (t ≡ s → ⊥) → Leaves t e → ⊥
 withdrawal_stays s t e call is other (inl (call', out)) = other (let same : t ≡ s = cc in same)
 withdrawal_stays s t e call is other (inr done) = let z : ◌≡◌ {A = ℕ} 0 1 = cc in omega arith
 
-not_refused : (c : ℕ) (r : Refusal) → Taken c ≡ Refused r → ⊥
+not_refused : (c : ℕ) (r : Refusal) → Ok (Taken c) ≡ Err r → ⊥
 not_refused c r e = let z : ◌≡◌ {A = ℕ} 0 1 = cc in omega arith
 
 spoiled_not_clean : Spoiled ≡ Clean → ⊥
@@ -72,15 +72,15 @@ still_on j later e v w nothing stays machine on still = (
   subst⁻¹ (λ q. Progress j q w.machine) (ap (λ l. l ++ quarters later) nothing) (subst⁻¹ (Progress j (quarters later)) machine still.2),
 )
 
-still_refused : (j : Job) (later : List Entry) (e : Entry) (r : Refusal) (v w : World) → e.answer ≡ Refused r → w ≡ v → Still j later v → Still j (e ∷ later) w
+still_refused : (j : Job) (later : List Entry) (e : Entry) (r : Refusal) (v w : World) → e.answer ≡ Err r → w ≡ v → Still j later v → Still j (e ∷ later) w
 still_refused j later e r v w is same still =
     still_on j later e v w (silent e.call e.answer r is) (refused_stays j.ticket r e is) (ap (λ x. x.machine) same) (subst⁻¹ (λ x. On j (board x)) same still.0) still
 
 module _ (m : Model) (V : Verdict) where
   -- a quarter
   still_quarter : (j : Job) (later earlier : List Entry) (k : Kind) (state : ℕ) (v : World) → Sound m V v → v.clock ≡ length (quarters (later ++ earlier)) → (call : Asked) →
-      (k ≡ Clean → call ≡ pass) → ((event : Event) → said call (Quarter event) ≡ (k, event) ∷ []) → Still j later v →
-      Track j (record { call = call; answer = Quarter (quarter V k v.clock v.machine v.waiting).event } ∷ later) earlier (one_quarter V k v state)
+      (k ≡ Clean → call ≡ pass) → ((event : Event) → said call (Ok (Quarter event)) ≡ (k, event) ∷ []) → Still j later v →
+      Track j (record { call = call; answer = Ok (Quarter (quarter V k v.clock v.machine v.waiting).event) } ∷ later) earlier (one_quarter V k v state)
   still_quarter j later earlier k state v sound clock call by_pass says (on, stays, progress) =
       go (quarter_tracks V k v.clock v.machine v.waiting j (quarters later) on sound.right.distinct progress)
     where
@@ -88,7 +88,7 @@ module _ (m : Model) (V : Verdict) where
       event = (quarter V k v.clock v.machine v.waiting).event
 
       e : Entry
-      e = record { call = call; answer = Quarter event }
+      e = record { call = call; answer = Ok (Quarter event) }
 
       w : World
       w = one_quarter V k v state
@@ -100,23 +100,23 @@ module _ (m : Model) (V : Verdict) where
         subst⁻¹ (λ q. Progress j q w.machine) (ap (λ l. l ++ quarters later) (says event)) progress',
       )
       go (inr (kind, done, run)) =
-          let is : e ≡ finishing j = λ i. record { call = by_pass kind i; answer = Quarter (done i) } in
+          let is : e ≡ finishing j = λ i. record { call = by_pass kind i; answer = Ok (Quarter (done i)) } in
           let soon = on_all (λ x. v.clock < x.due) j (board v) (due_ahead m V v sound) on in
           inr (inr (later, (([], ap (λ x. x ∷ later) is), stays), run, omega arith))
 
   -- one call
-  still_step : (j : Job) (later earlier : List Entry) (call : Asked) (answer : Answer) (v w : World) → Sound m V v → v.clock ≡ length (quarters (later ++ earlier)) →
+  still_step : (j : Job) (later earlier : List Entry) (call : Asked) (answer : Result Answer Refusal) (v w : World) → Sound m V v → v.clock ≡ length (quarters (later ++ earlier)) →
       Reckons m V v call answer w → Still j later v → Track j (record { call = call; answer = answer } ∷ later) earlier w
   still_step j later earlier pass answer v w sound clock (inl (_, (is, same))) still = inl (still_refused j later (record { call = pass; answer = answer }) ClockEnded v w is same still)
   still_step j later earlier pass answer v w sound clock (inr (_, (is, next))) still =
       subst⁻¹ (λ a. Track j (record { call = pass; answer = a } ∷ later) earlier w) is
-      (subst⁻¹ (Track j (record { call = pass; answer = Quarter (quarter V Clean v.clock v.machine v.waiting).event } ∷ later) earlier) next
+      (subst⁻¹ (Track j (record { call = pass; answer = Ok (Quarter (quarter V Clean v.clock v.machine v.waiting).event) } ∷ later) earlier) next
       (still_quarter j later earlier Clean (m.clean v.state) v sound clock pass (λ e. refl) (λ e. refl) still))
   still_step j later earlier spoil answer v w sound clock (inl (_, (is, same))) still = inl (still_refused j later (record { call = spoil; answer = answer }) ClockEnded v w is same still)
   still_step j later earlier spoil answer v w sound clock (inr (_, inl (_, (is, same)))) still = inl (still_refused j later (record { call = spoil; answer = answer }) FaultForbidden v w is same still)
   still_step j later earlier spoil answer v w sound clock (inr (_, inr (_, (t, _, (is, next))))) still =
       subst⁻¹ (λ a. Track j (record { call = spoil; answer = a } ∷ later) earlier w) is
-      (subst⁻¹ (Track j (record { call = spoil; answer = Quarter (quarter V Spoiled v.clock v.machine v.waiting).event } ∷ later) earlier) next
+      (subst⁻¹ (Track j (record { call = spoil; answer = Ok (Quarter (quarter V Spoiled v.clock v.machine v.waiting).event) } ∷ later) earlier) next
       (still_quarter j later earlier Spoiled t v sound clock spoil (λ e. absurd (spoiled_not_clean e)) (λ e. refl) still))
   still_step j later earlier (withdraw t) answer v w sound clock (inl (_, (is, same))) still =
       inl (still_refused j later (record { call = withdraw t; answer = answer }) TicketUnknown v w is same still)
@@ -154,7 +154,7 @@ module _ (m : Model) (V : Verdict) where
   new_progress j None ws new = tt
   new_progress j (Some r) ws new = λ e. absurd (new (inl e))
 
-  booked : (j : Job) (room place c : ℕ) (v w : World) → Reckons m V v (book room place j) (Taken c) w → Still j [] w
+  booked : (j : Job) (room place c : ℕ) (v w : World) → Reckons m V v (book room place j) (Ok (Taken c)) w → Still j [] w
   booked j room place c v w (inl (_, (is, _))) = absurd (not_refused c OutsideLimits is)
   booked j room place c v w (inr (_, inl (_, (is, _)))) = absurd (not_refused c TicketTaken is)
   booked j room place c v w (inr (_, inr (_, inl (_, (is, _))))) = absurd (not_refused c BoardFull is)

@@ -1,5 +1,5 @@
 -- A booking is refused for lateness exactly where every plan fails.
-use Rattle.std.proofs.Common.{◌≡◌, ℕ, List, [], ◌∷◌, ◌++◌, subst, inl, inr, arith}
+use Rattle.std.proofs.Common.{◌≡◌, ℕ, List, [], ◌∷◌, ◌++◌, subst, inl, inr, arith, Ok, Err, Result}
 use Rattle.rules.specs.Model.{Model, Laws}
 use Rattle.inspections.specs.Verdict.{Verdict, Bounded}
 use Rattle.calls.specs.declared.call.Job.{Job}
@@ -7,7 +7,7 @@ use Rattle.schedules.specs.World.{World}
 use Rattle.schedules.specs.Plans.{FailsFor, proposed}
 use Rattle.reckoning.specs.Log.{book, Reckons, Entry, Led}
 use Rattle.calls.specs.declared.answer.Answer.{Answer}
-use Rattle.calls.specs.declared.answer.Answer.TheVariants.{Taken, Refused}
+use Rattle.calls.specs.declared.answer.Answer.TheVariants.{Taken}
 use Rattle.reckoning.specs.Sound.{Sound}
 use Rattle.reckoning.specs.Theorems.{NoOtherFault, AnsweredExactly, LateExactly}
 use Rattle.reckoning.proofs.Booking.{proposed_right}
@@ -17,10 +17,10 @@ use Rattle.reckoning.proofs.OneAnswer.{one_world}
 use Rattle.calls.specs.declared.refusal.Refusal.{Refusal}
 use Rattle.calls.specs.declared.refusal.Refusal.TheVariants.{Late}
 
-refused_not_taken : (a : Answer) (r : Refusal) (c : ℕ) → a ≡ Refused r → a ≡ Taken c → ⊥
+refused_not_taken : (a : Result Answer Refusal) (r : Refusal) (c : ℕ) → a ≡ Err r → a ≡ Ok (Taken c) → ⊥
 refused_not_taken a r c p q = let z : ◌≡◌ {A = ℕ} 0 1 = cc in omega arith
 
-same_ticket : (a : Answer) (d e : ℕ) → a ≡ Refused (Late d) → a ≡ Refused (Late e) → d ≡ e
+same_ticket : (a : Result Answer Refusal) (d e : ℕ) → a ≡ Err (Late d) → a ≡ Err (Late e) → d ≡ e
 same_ticket a d e p q = cc
 
 -- an entry of a log was reckoned in the world that the entries before it led to
@@ -30,7 +30,7 @@ found m V [] earlier e w (v, led, reckons) = (v, w, led, reckons)
 found m V (x ∷ later) earlier e w (v, led, reckons) = found m V later earlier e v led
 
 module _ (m : Model) (laws : Laws m) (V : Verdict) (bounded : Bounded V) where
-  exactly : (v v' : World) (room place : ℕ) (j : Job) (answer : Answer) → Sound m V v → NoOtherFault v room place j → Reckons m V v (book room place j) answer v' →
+  exactly : (v v' : World) (room place : ℕ) (j : Job) (answer : Result Answer Refusal) → Sound m V v → NoOtherFault v room place j → Reckons m V v (book room place j) answer v' →
       AnsweredExactly m V v (proposed place j v.waiting) answer
   exactly v v' room place j answer sound (limits, new, few, near, table) (inl (out, _)) = absurd (out limits)
   exactly v v' room place j answer sound (limits, new, few, near, table) (inr (_, inl (old, _))) = absurd (new old)

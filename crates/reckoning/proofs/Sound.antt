@@ -1,5 +1,5 @@
 -- Every world that a log leads to is sound.
-use Rattle.std.proofs.Common.{ℕ, ◌<◌, ◌≤◌, [], ◌∷◌, length, refl, inl, inr, arith}
+use Rattle.std.proofs.Common.{ℕ, ◌<◌, ◌≤◌, [], ◌∷◌, length, refl, inl, inr, arith, Result}
 use mathlib.Core.Path.{subst⁻¹}
 use Rattle.std.proofs.lemmas.Bool.{cases_lt}
 use Rattle.rules.specs.Model.{Model, Laws}
@@ -10,6 +10,7 @@ use Rattle.schedules.specs.declared.run.Kind.TheVariants.{Clean, Spoiled}
 use Rattle.schedules.specs.Plans.{EveryPlanFails, proposed}
 use Rattle.reckoning.specs.Log.{Asked, book, withdraw, pass, spoil, HasTicket, Reckons, opened}
 use Rattle.calls.specs.declared.answer.Answer.{Answer}
+use Rattle.calls.specs.declared.refusal.Refusal.{Refusal}
 use Rattle.reckoning.specs.Sound.{Sound}
 use Rattle.reckoning.specs.Theorems.{LedSound}
 use Rattle.reckoning.proofs.Booking.{proposed_right, board_proposed_length, in_time_unless_every_plan_fails}
@@ -62,7 +63,7 @@ module _ (m : Model) (laws : Laws m) (V : Verdict) (bounded : Bounded V) where
         kept = in_time_unless_every_plan_fails m laws V bounded w (proposed place j w.waiting) sound.known right some;
       }
 
-  pub reckons_sound : (w w' : World) (call : Asked) (answer : Answer) → Sound m V w → Reckons m V w call answer w' → Sound m V w'
+  pub reckons_sound : (w w' : World) (call : Asked) (answer : Result Answer Refusal) → Sound m V w → Reckons m V w call answer w' → Sound m V w'
   reckons_sound w w' pass answer sound (inl (over, (_, same))) = subst⁻¹ (Sound m V) same sound
   reckons_sound w w' pass answer sound (inr (early, (_, next))) =
       subst⁻¹ (Sound m V) next (quarter_sound m laws V bounded Clean w (m.clean w.state) sound early (laws.clean_stays w.state sound.known) (inl (refl, refl)))

@@ -12,7 +12,7 @@ use Rattle.schedules.specs.declared.run.Kind.TheVariants.{Clean, Spoiled}
 use Rattle.calls.specs.declared.answer.Event.{Event}
 use Rattle.calls.specs.declared.answer.Event.TheVariants.{Idle, Running, Again, Finished}
 use Rattle.schedules.specs.World.{begun, started, left_waiting, struck, run_after, event_after, machine_after, event_of, on_machine, Distinct}
-use Rattle.schedules.proofs.Steps.{running_goes_on, again_goes_on, idle_goes_on}
+use Rattle.schedules.proofs.Steps.{again_goes_on, at_run, idle_goes_on, running_goes_on}
 
 -- a run that is not hit: its quarters were all clean
 abbrev CleanSoFar : ℕ → ℕ → List (Kind × Event) → Option ℕ → Type 0
@@ -46,9 +46,6 @@ tracked_at : (j : Job) (quarters : List (Kind × Event)) (k : Kind) (m m' : Opti
     Tracked j quarters k m' e' ws → Tracked j quarters k m e ws
 tracked_at j quarters k m m' e e' ws p q h =
     subst⁻¹ (λ x. Tracked j quarters k x e ws) p (subst⁻¹ (λ x. Tracked j quarters k m' x ws) q h)
-
-abbrev at_run : Job → ℕ → Option ℕ → Option Run
-at_run j gone hit = Some (record { job = j; gone = gone; hit = hit })
 
 -- a run that is hit
 hit_tracks : (j x : Job) (gone h : ℕ) (ws : List Job) (quarters : List (Kind × Event)) (k : Kind) → On j (x ∷ ws) →

@@ -1,5 +1,5 @@
 -- What a log tells of a job that was booked. Logs have the newest entry first.
-use Rattle.std.specs.Prelude.{◌≡◌, ℕ, ◌-◌, ◌≤◌, ◌⊎◌, List, [], ◌∷◌, ◌++◌, length, take, replicate}
+use Rattle.std.specs.Prelude.{◌≡◌, ℕ, ◌-◌, ◌≤◌, ◌⊎◌, List, [], ◌∷◌, ◌++◌, length, take, replicate, Ok, Err, Result}
 use Rattle.std.specs.List.{AllByRecursion}
 use Rattle.schedules.specs.Lists.{Any}
 use Rattle.calls.specs.declared.call.Job.{Job}
@@ -10,18 +10,19 @@ use Rattle.calls.specs.declared.answer.Event.{Event}
 use Rattle.calls.specs.declared.answer.Event.TheVariants.{Running, Finished}
 use Rattle.reckoning.specs.Log.{Asked, book, withdraw, pass, spoil, Entry}
 use Rattle.calls.specs.declared.answer.Answer.{Answer}
-use Rattle.calls.specs.declared.answer.Answer.TheVariants.{Taken, Withdrawn, Quarter, Refused}
+use Rattle.calls.specs.declared.answer.Answer.TheVariants.{Taken, Withdrawn, Quarter}
+use Rattle.calls.specs.declared.refusal.Refusal.{Refusal}
 
 -- the quarter that an entry tells of, if any: its kind and its event
-abbrev pub said : Asked → Answer → List (Kind × Event)
-said pass (Quarter e) = (Clean, e) ∷ []
-said spoil (Quarter e) = (Spoiled, e) ∷ []
-said pass (Taken c) = []
-said pass Withdrawn = []
-said pass (Refused r) = []
-said spoil (Taken c) = []
-said spoil Withdrawn = []
-said spoil (Refused r) = []
+abbrev pub said : Asked → Result Answer Refusal → List (Kind × Event)
+said pass (Ok (Quarter e)) = (Clean, e) ∷ []
+said spoil (Ok (Quarter e)) = (Spoiled, e) ∷ []
+said pass (Ok (Taken c)) = []
+said pass (Ok Withdrawn) = []
+said pass (Err r) = []
+said spoil (Ok (Taken c)) = []
+said spoil (Ok Withdrawn) = []
+said spoil (Err r) = []
 said (book room place j) a = []
 said (withdraw t) a = []
 
@@ -32,17 +33,17 @@ quarters (e ∷ log) = said e.call e.answer ++ quarters log
 
 -- by this entry the ticket's job leaves the board
 abbrev pub Leaves : ℕ → Entry → Type 0
-Leaves t e = ((e.call ≡ withdraw t) × (e.answer ≡ Withdrawn)) ⊎ (e.answer ≡ Quarter (Finished t))
+Leaves t e = ((e.call ≡ withdraw t) × (e.answer ≡ Ok Withdrawn)) ⊎ (e.answer ≡ Ok (Quarter (Finished t)))
 
 -- the entries by which a job is booked, withdrawn and finished
 abbrev pub booking : ℕ → ℕ → Job → ℕ → Entry
-booking room place j c = record { call = book room place j; answer = Taken c }
+booking room place j c = record { call = book room place j; answer = Ok (Taken c) }
 
 abbrev pub withdrawal : Job → Entry
-withdrawal j = record { call = withdraw j.ticket; answer = Withdrawn }
+withdrawal j = record { call = withdraw j.ticket; answer = Ok Withdrawn }
 
 abbrev pub finishing : Job → Entry
-finishing j = record { call = pass; answer = Quarter (Finished j.ticket) }
+finishing j = record { call = pass; answer = Ok (Quarter (Finished j.ticket)) }
 
 -- the entry is in the log after the booking, and is the first by which the job leaves
 abbrev pub LeftBy : Job → Entry → List Entry → List Entry → Type 0

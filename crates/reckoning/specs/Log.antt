@@ -1,5 +1,5 @@
 -- The calls to a board, how each is answered, and the logs that can come about.
-use Rattle.std.specs.Prelude.{◌≡◌, ℕ, suc, ◌<◌, ◌≤◌, List, [], ◌∷◌, length, Some, None}
+use Rattle.std.specs.Prelude.{◌≡◌, ℕ, suc, ◌<◌, ◌≤◌, List, [], ◌∷◌, length, Some, None, Ok, Err, Result}
 use Rattle.rules.specs.Model.{Model}
 use Rattle.inspections.specs.Verdict.{Verdict}
 use Rattle.schedules.specs.Lists.{Any, If}
@@ -8,7 +8,7 @@ use Rattle.schedules.specs.World.{World, quarter, with_waiting, without, on_mach
 use Rattle.schedules.specs.declared.run.Kind.{Kind}
 use Rattle.schedules.specs.declared.run.Kind.TheVariants.{Clean, Spoiled}
 use Rattle.calls.specs.declared.answer.Answer.{Answer}
-use Rattle.calls.specs.declared.answer.Answer.TheVariants.{Quarter, Refused, Taken, Withdrawn}
+use Rattle.calls.specs.declared.answer.Answer.TheVariants.{Quarter, Taken, Withdrawn}
 use Rattle.calls.specs.declared.call.Call.{Call}
 use Rattle.calls.specs.declared.call.Call.TheVariants.{Book, Pass, Spoil, Withdraw}
 use Rattle.calls.specs.declared.refusal.Refusal.{Refusal}
@@ -30,8 +30,8 @@ asked room Pass = pass
 asked room Spoil = spoil
 
 -- a refusal leaves the world as it was
-abbrev pub Refuses : World → Answer → World → Refusal → Type 0
-Refuses w answer w' refusal = (answer ≡ Refused refusal) × (w' ≡ w)
+abbrev pub Refuses : World → Result Answer Refusal → World → Refusal → Type 0
+Refuses w answer w' refusal = (answer ≡ Err refusal) × (w' ≡ w)
 
 -- the world after a quarter of the kind that leaves the rule in the state
 abbrev pub one_quarter : Verdict → Kind → World → ℕ → World
@@ -43,23 +43,23 @@ one_quarter V kind w state = record {
 }
 
 -- the quarter is answered by its event
-abbrev pub GoesOn : Verdict → Kind → World → ℕ → Answer → World → Type 0
-GoesOn V kind w state answer w' = (answer ≡ Quarter (quarter V kind w.clock w.machine w.waiting).event) × (w' ≡ one_quarter V kind w state)
+abbrev pub GoesOn : Verdict → Kind → World → ℕ → Result Answer Refusal → World → Type 0
+GoesOn V kind w state answer w' = (answer ≡ Ok (Quarter (quarter V kind w.clock w.machine w.waiting).event)) × (w' ≡ one_quarter V kind w state)
 
 -- a job of the list has the ticket
 abbrev pub HasTicket : ℕ → List Job → Type 0
 HasTicket t js = Any (λ j. j.ticket ≡ t) js
 
 -- the sequence can be kept: the answer is the worst finish of the new job
-abbrev pub Takes : Model → Verdict → World → List Job → Job → Answer → World → Type 0
-Takes m V w jobs j answer w' = (c : ℕ) × Worst m V w jobs (earliest w.clock jobs) j.ticket c × (answer ≡ Taken c) × (w' ≡ with_waiting w jobs)
+abbrev pub Takes : Model → Verdict → World → List Job → Job → Result Answer Refusal → World → Type 0
+Takes m V w jobs j answer w' = (c : ℕ) × Worst m V w jobs (earliest w.clock jobs) j.ticket c × (answer ≡ Ok (Taken c)) × (w' ≡ with_waiting w jobs)
 
 -- it cannot: the answer names the first job that can be late at the earliest starts
-abbrev pub RefusesLate : Model → Verdict → World → List Job → Answer → World → Type 0
+abbrev pub RefusesLate : Model → Verdict → World → List Job → Result Answer Refusal → World → Type 0
 RefusesLate m V w jobs answer w' = (t : ℕ) × FirstLate m V w jobs (earliest w.clock jobs) t × Refuses w answer w' (Late t)
 
 -- how a call is answered, and what world it leads to
-abbrev pub Reckons : Model → Verdict → World → Asked → Answer → World → Type 0
+abbrev pub Reckons : Model → Verdict → World → Asked → Result Answer Refusal → World → Type 0
 Reckons m V w pass answer w' =
     If (w.clock ≡ 4096) (Refuses w answer w' ClockEnded)
     (GoesOn V Clean w (m.clean w.state) answer w')
@@ -70,7 +70,7 @@ Reckons m V w spoil answer w' =
 Reckons m V w (withdraw t) answer w' =
     If (HasTicket t (board w) → ⊥) (Refuses w answer w' TicketUnknown)
     (If (HasTicket t (on_machine w.machine)) (Refuses w answer w' TicketOnMachine)
-    ((answer ≡ Withdrawn) × (w' ≡ with_waiting w (without t w.waiting))))
+    ((answer ≡ Ok Withdrawn) × (w' ≡ with_waiting w (without t w.waiting))))
 Reckons m V w (book room place j) answer w' =
     If (WithinLimits j → ⊥) (Refuses w answer w' OutsideLimits)
     (If (HasTicket j.ticket (board w)) (Refuses w answer w' TicketTaken)
@@ -83,7 +83,7 @@ Reckons m V w (book room place j) answer w' =
 -- a call with its answer
 pub record Entry : Type 0 where
   pub call : Asked
-  pub answer : Answer
+  pub answer : Result Answer Refusal
 
 -- the world at the clock 0
 abbrev pub opened : Model → World

@@ -1,5 +1,5 @@
 -- The statements about logs.
-use Rattle.std.specs.Prelude.{◌≡◌, ℕ, ◌<◌, ◌≤◌, ◌↔◌, List, [], ◌∷◌, ◌++◌, map, length}
+use Rattle.std.specs.Prelude.{◌≡◌, ℕ, ◌<◌, ◌≤◌, ◌↔◌, List, [], ◌∷◌, ◌++◌, map, length, Ok, Err, Result}
 use Rattle.std.specs.List.{AllByRecursion}
 use Rattle.rules.specs.Model.{Model}
 use Rattle.inspections.specs.Verdict.{Verdict, Bounded}
@@ -11,7 +11,8 @@ use Rattle.schedules.specs.World.{World, board, WithinLimits, with_waiting, with
 use Rattle.schedules.specs.Plans.{Plan, earliest, Fails, EveryPlanFails, FailsFor, FirstLate, Worst, proposed}
 use Rattle.reckoning.specs.Log.{Asked, asked, book, HasTicket, Reckons, Entry, Led}
 use Rattle.calls.specs.declared.answer.Answer.{Answer}
-use Rattle.calls.specs.declared.answer.Answer.TheVariants.{Taken, Refused}
+use Rattle.calls.specs.declared.answer.Answer.TheVariants.{Taken}
+use Rattle.calls.specs.declared.refusal.Refusal.{Refusal}
 use Rattle.reckoning.specs.Sound.{Sound}
 use Rattle.reckoning.specs.Fates.{quarters, booking, Fate}
 use Rattle.calls.specs.declared.refusal.Refusal.TheVariants.{Late}
@@ -34,25 +35,25 @@ abbrev pub NoOtherFault : World → ℕ → ℕ → Job → Type 0
 NoOtherFault w room place j = WithinLimits j × (HasTicket j.ticket (board w) → ⊥) × (length (board w) < 24) × (place ≤ length w.waiting) × (16384 ≤ room)
 
 -- it is refused as late exactly where every plan fails, else it is taken, and every plan fails for the ticket that is named
-abbrev pub AnsweredExactly : Model → Verdict → World → List Job → Answer → Type 0
+abbrev pub AnsweredExactly : Model → Verdict → World → List Job → Result Answer Refusal → Type 0
 AnsweredExactly m V w jobs answer =
-    (EveryPlanFails m V w jobs ↔ ((t : ℕ) × (answer ≡ Refused (Late t))))
-    × ((EveryPlanFails m V w jobs → ⊥) ↔ ((c : ℕ) × (answer ≡ Taken c)))
-    × ((t : ℕ) → answer ≡ Refused (Late t) → (starts : List ℕ) → Plan w.clock jobs starts → FailsFor m V w jobs starts t)
+    (EveryPlanFails m V w jobs ↔ ((t : ℕ) × (answer ≡ Err (Late t))))
+    × ((EveryPlanFails m V w jobs → ⊥) ↔ ((c : ℕ) × (answer ≡ Ok (Taken c))))
+    × ((t : ℕ) → answer ≡ Err (Late t) → (starts : List ℕ) → Plan w.clock jobs starts → FailsFor m V w jobs starts t)
 
 -- A booking without other fault is so answered on the board that it found.
 abbrev pub LateExactly : Model → Type 0
 LateExactly m =
-    (V : Verdict) → Bounded V → 0 < m.size → (later earlier : List Entry) (room place : ℕ) (j : Job) (answer : Answer) (w : World) →
+    (V : Verdict) → Bounded V → 0 < m.size → (later earlier : List Entry) (room place : ℕ) (j : Job) (answer : Result Answer Refusal) (w : World) →
     Led m V (later ++ (record { call = book room place j; answer = answer } ∷ earlier)) w →
     (v : World) → Led m V earlier v → NoOtherFault v room place j → AnsweredExactly m V v (proposed place j v.waiting) answer
 
 -- A board that decides by the earliest plan answers as reckoned.
 abbrev pub MeetsReckoning : Model → Verdict → World → ℕ → ℕ → Job → List Job → Type 0
 MeetsReckoning m V w room place j jobs =
-    ((t : ℕ) → FirstLate m V w jobs (earliest w.clock jobs) t → Reckons m V w (book room place j) (Refused (Late t)) w)
+    ((t : ℕ) → FirstLate m V w jobs (earliest w.clock jobs) t → Reckons m V w (book room place j) (Err (Late t)) w)
     × ((c : ℕ) → (Fails m V w jobs (earliest w.clock jobs) → ⊥) → Worst m V w jobs (earliest w.clock jobs) j.ticket c →
-    Reckons m V w (book room place j) (Taken c) (with_waiting w jobs))
+    Reckons m V w (book room place j) (Ok (Taken c)) (with_waiting w jobs))
 
 -- on every sound board
 abbrev pub DecidesBookings : Model → Type 0
@@ -74,7 +75,7 @@ Withdrawing m =
 -- There is just one answer to each call, and one world that it leads to.
 abbrev pub OneAnswer : Model → Type 0
 OneAnswer m =
-    (V : Verdict) (w : World) (call : Asked) (a b : Answer) (u v : World) → Reckons m V w call a u → Reckons m V w call b v → (a ≡ b) × (u ≡ v)
+    (V : Verdict) (w : World) (call : Asked) (a b : Result Answer Refusal) (u v : World) → Reckons m V w call a u → Reckons m V w call b v → (a ≡ b) × (u ≡ v)
 
 -- A log leads to one world.
 abbrev pub OneWorld : Model → Type 0
@@ -82,7 +83,7 @@ OneWorld m = (V : Verdict) (log : List Entry) (u v : World) → Led m V log u �
 
 -- Every call on a sound board has an answer.
 abbrev pub EveryCallAnswered : Model → Type 0
-EveryCallAnswered m = (V : Verdict) → Bounded V → (w : World) → Sound m V w → (call : Asked) → (answer : Answer) × (w' : World) × Reckons m V w call answer w'
+EveryCallAnswered m = (V : Verdict) → Bounded V → (w : World) → Sound m V w → (call : Asked) → (answer : Result Answer Refusal) × (w' : World) × Reckons m V w call answer w'
 
 -- the calls of a log, the newest first
 abbrev pub calls : List Entry → List Asked

@@ -25,6 +25,7 @@ impl<A: Rule, B: Rule> Both<A, B> {
 }
 
 // Does nothing: its contract is what the two rules allow.
+#[tactic(auto, using(crate::specs::BothLaws::both_allow))]
 fn both_allow<A: Rule, B: Rule>(first: &A, second: &B)
     ensures { BothAllows (A.Rule.model first.now) (B.Rule.model second.now) }
 {}
@@ -47,10 +48,7 @@ impl<A: Rule, B: Rule> Both<A, B> {
         requires second { (y : ℕ) → second ≡ Some y → y < 512 }
         ensures { result ≡ joined (B.Rule.model self.now.second).size first second }
     {
-        match (first, second) {
-            (Some(x), Some(y)) => Some(x * self.second.size() + y),
-            _ => None,
-        }
+        Some(first? * self.second.size() + second?)
     }
 }
 

@@ -24,6 +24,7 @@ impl Gap {
 }
 
 // Does nothing: its contract is what the rule allows.
+#[tactic(auto, using(crate::specs::GapLaws::gap_allows))]
 fn gap_allows(quarters: u32)
     ensures { GapAllows quarters }
 {}

@@ -6,7 +6,7 @@ ghost use Rattle.rules.specs.Model.{Model, Laws, capped, after_clean, after_spoi
 pub trait Rule {
     ghost model: { Self → Model };
 
-    // How many states the rule has: they are numbered from 0. A rule of size 0 is no rule.
+    // How many states the rule has: they are numbered from 0. A rule of size 0 is no rule: a rule of the project fixes this number, which the shift prints.
     fn size(&self) -> u32
         ensures { result ≡ (model self.now).size };
 

@@ -49,6 +49,10 @@ again_goes_on t s e = let z : ◌≡◌ {A = ℕ} 0 1 = cc in omega arith
 pub idle_goes_on : (s : ℕ) → Idle ≡ Finished s → ⊥
 idle_goes_on s e = let z : ◌≡◌ {A = ℕ} 0 1 = cc in omega arith
 
+-- a run of the job, with so many quarters gone
+abbrev pub at_run : Job → ℕ → Option ℕ → Option Run
+at_run j gone hit = Some (record { job = j; gone = gone; hit = hit })
+
 module _ (V : Verdict) (bounded : Bounded V) where
   moved_at : (c : ℕ) (m m' : Option Run) (e e' : Event) (ws jobs : List Job) (times g : List ℕ) → m ≡ m' → e ≡ e' →
       Moved V c m' e' ws jobs times g → Moved V c m e ws jobs times g
@@ -71,9 +75,6 @@ module _ (V : Verdict) (bounded : Bounded V) where
   times_hit p S q S' ws g h k l e =
       ap (λ C. C ∷ finishes V C (slots ws) (q ∷ g)) (completion_hit V p S q g h k ∙ ap (λ n. completion V p n g) e)
       ∙ ap (λ r. completion V p S' g ∷ r) (finishes_skip (completion V p S' g) q (slots ws) g (omega (arith, completion_grows V bounded p S' g)))
-
-  abbrev at_run : Job → ℕ → Option ℕ → Option Run
-  at_run j gone hit = Some (record { job = j; gone = gone; hit = hit })
 
   same_times : (p S S' : ℕ) (ws : List Job) (g : List ℕ) → S ≡ S' → times_from V p S ws g ≡ times_from V p S' ws g
   same_times p S S' ws g e = ap (λ x. times_from V p x ws g) e

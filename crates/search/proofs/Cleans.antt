@@ -1,12 +1,10 @@
 -- n clean quarters.
-use Rattle.std.proofs.Common.{◌≡◌, ℕ, ◌+◌, ◌*◌, ◌/◌, ◌%◌, ◌^◌, ◌<◌, Some, sym, ap, ◌∙◌, subst, inl, inr, mod-lt, mul_assoc, add-mul, one-mul, div-add-mod', zero-mul, add-one, arith}
+use Rattle.std.proofs.Common.{◌≡◌, ℕ, ◌+◌, ◌*◌, ◌/◌, ◌%◌, ◌^◌, ◌<◌, sym, ap, ◌∙◌, subst, inl, inr, mod-lt, mul_assoc, add-mul, one-mul, div-add-mod', zero-mul, add-one, arith}
 use Rattle.std.proofs.lemmas.Bool.{cases_eq}
 use native.Mathlib.Nat.{pow-succ'}
+use Rattle.rules.proofs.Cleans.{cleans_stay}
 use Rattle.rules.specs.Model.{Laws, Model, cleans}
-use Rattle.schedules.proofs.States.{above_cleans, above_refl, cleans_more}
-
-pub cleans_stay : (m : Model) → Laws m → (n s : ℕ) → s < m.size → cleans m n s < m.size
-cleans_stay m laws n s h = (above_cleans m laws n s s (above_refl m laws s h)).0
+use Rattle.schedules.proofs.States.{above_cleans, cleans_more}
 
 -- one bit of how many quarters are left
 bit : (left k : ℕ) → left * 2 ^ k ≡ left / 2 * 2 ^ (k + 1) + left % 2 * 2 ^ k
@@ -41,14 +39,6 @@ leads_odd m laws end left k at next e is (inside, leads, few) =
       ap (cleans m (left / 2 * 2 ^ (k + 1))) is ∙ sym (cleans_more m (2 ^ k) (left / 2 * 2 ^ (k + 1)) at) ∙ ap (λ n. cleans m n at) (sym same) ∙ leads,
       omega arith,
     )
-
--- a state that the code holds is a state
-pub at_stays : (m : Model) → Laws m → (n s a : ℕ) → s < m.size → a ≡ cleans m n s → a < m.size
-at_stays m laws n s a h e = subst (λ x. x < m.size) (sym e) (cleans_stay m laws n s h)
-
--- and so is where a fault leads from there
-pub spoiled_stays : (m : Model) → Laws m → (n s a u : ℕ) → s < m.size → a ≡ cleans m n s → Some u ≡ m.spoiled a → u < m.size
-spoiled_stays m laws n s a u h e f = laws.spoiled_stays a u (at_stays m laws n s a h e) (sym f)
 
 -- one clean quarter more
 pub cleans_next : (m : Model) (n s a b : ℕ) → a ≡ cleans m n s → b ≡ m.clean a → b ≡ cleans m (n + 1) s

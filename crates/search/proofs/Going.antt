@@ -1,139 +1,100 @@
--- Round after round.
-use Rattle.std.proofs.Common.{ℕ, ◌+◌, ◌-◌, ◌<◌, ◌≤◌, ◌⊎◌, List, get_or, refl, inl, inr, ⊎_elim, arith}
-use Rattle.inspections.specs.Verdict.{Bounded, Verdict}
-use Rattle.rules.specs.Model.{Laws, Model, cleans}
-use Rattle.search.proofs.Cleans.{cleans_keep, cleans_stay}
-use Rattle.search.specs.Chains.{Covered, Chain, Ends, Goes, Late, Searched, Starts, Strike, again, cleanly, faultily, first, still}
+-- Start after start.
+use Rattle.std.proofs.Common.{◌≡◌, ℕ, zero, suc, ◌+◌, ◌-◌, ◌<◌, ◌≤◌, ◌⊎◌, List, [], ◌∷◌, length, get_or, set, sym, ap, ◌∙◌, subst, inl, inr, ⊎_elim, arith, get_or-set_other, get_or-set_same}
+use Rattle.inspections.specs.Verdict.{Verdict}
+use Rattle.rules.specs.Model.{Model, cleans}
+use Rattle.search.specs.Chains.{Chain, Ends, Passes, Searched, Starts, again, first}
 use Rattle.search.specs.Hits.{Hit}
-use Rattle.search.specs.Rounds.{CleanOf, HitOf, LateOf, Ran}
-use Rattle.search.specs.Rows.{Covers, Empty, Grew, In}
+use Rattle.search.specs.Rows.{Covers, Empty, Grew, In, KeepsOne, Pending}
+use Rattle.std.proofs.lemmas.Bool.{cases_eq}
 
--- a start from which a clean run keeps the due quarter, and whose end is covered
-pub record Done (m : Model) (p due : ℕ) (finish : List ℕ) (s t : ℕ) : Type 0 where
-  pub on_time : t + p ≤ due
-  pub end : Covered m finish (cleans m p s) (t + p)
-
--- what is known before the round k
-pub record Going (m : Model) (V : Verdict) (p due k : ℕ) (row cur finish finish' : List ℕ) : Type 0 where
-  pub reached : (s t : ℕ) → s < m.size → In cur s t → Chain (Hit m V p p) (Starts m row) s t
-  pub later : (s t : ℕ) → s < m.size → In cur s t → k ≤ t
-  pub sooner : 0 < k → (s t : ℕ) → s < m.size → In cur s t → t ≤ due
-  pub ended : (s f : ℕ) → In finish' s f → In finish s f ⊎ Ends m (Hit m V p p) p (Starts m row) s f
-  pub covered : (s t : ℕ) → Chain (Strike m V p) (Covered m row) s t → Done m p due finish' s t ⊎ Chain (Strike m V p) (Covered m cur) s t
+-- what is known while `done` has the starts that were gone through, the later ones for each state, and `cur` those that are known
+pub record Going (m : Model) (V : Verdict) (p due : ℕ) (row cur done finish finish' : List ℕ) : Type 0 where
+  pub behind : (s : ℕ) → get_or done s 0 ≤ get_or cur s 0
+  pub grown : (s : ℕ) → get_or row s 0 ≤ get_or cur s 0
+  pub reached : (s t : ℕ) → Starts m cur s t → Chain m V p due row s t
+  pub on_time : (s t : ℕ) → Starts m done s t → t + p ≤ due
+  pub closed : (s t s' t' : ℕ) → Starts m done s t → Hit m V p 0 p s t s' t' → Covers cur s' t'
+  pub ended : (s t : ℕ) → Starts m done s t → Covers finish' (cleans m p s) (t + p)
+  pub sound : (s f : ℕ) → In finish' s f → In finish s f ⊎ Ends m V p due row s f
   pub keeps : (s : ℕ) → get_or finish s 0 ≤ get_or finish' s 0
 
--- an entry that covers is an entry
-module _ (m : Model) (row : List ℕ) where
-  covered_from : (s' t' s t : ℕ) → Covers row s' t' → t ≤ t' → m.Freer s' s → s' < m.size → s < m.size → Covered m row s t
-  covered_from s' t' s t c l f i w = record { state = s'; time = get_or row s' 0 - 1; entry = omega arith; later = omega arith; freer = f; inside = i; within = w }
+-- how much each number can still rise up to n, in all
+abbrev pub left_to : ℕ → List ℕ → ℕ
+left_to n [] = 0
+left_to n (x ∷ xs) = (n - x) + left_to n xs
 
-covered_grows : (m : Model) (old new : List ℕ) → ((s : ℕ) → get_or old s 0 ≤ get_or new s 0) → (s t : ℕ) → Covered m old s t → Covered m new s t
-covered_grows m old new k s t a =
-    covered_from m new a.state a.time s t (omega (arith, a.entry, k a.state)) a.later a.freer a.inside a.within
+pub left_less : (n : ℕ) (xs : List ℕ) (i v : ℕ) → i < length xs → get_or xs i 0 < v → v ≤ n → left_to n (set xs i v) < left_to n xs
+left_less n [] i v h k l = absurd (omega arith)
+left_less n (x ∷ xs) zero v h k l = omega arith
+left_less n (x ∷ xs) (suc i) v h k l = let less = left_less n xs i v (omega arith) k l in omega arith
 
--- any faults on the way leave a state that is no freer than none would
-module _ (m : Model) (laws : Laws m) where
-  goes_stays : {n s u : ℕ} → s < m.size → Goes m n s u → u < m.size
-  goes_stays h still = h
-  goes_stays h (cleanly g) = laws.clean_stays _ (goes_stays h g)
-  goes_stays h (faultily g e) = laws.spoiled_stays _ _ (goes_stays h g) e
-
-  goes_freer : {n s u : ℕ} → s < m.size → Goes m n s u → m.Freer (cleans m n s) u
-  goes_freer h still = laws.reflexive _ h
-  goes_freer h (cleanly {n} {s} {u} g) = laws.clean_keeps (cleans m n s) u (cleans_stay m laws n s h) (goes_stays h g) (goes_freer h g)
-  goes_freer h (faultily {n} {s} {u} {v} g e) =
-      laws.transitive (m.clean (cleans m n s)) (m.clean u) v (laws.clean_stays _ (cleans_stay m laws n s h)) (laws.clean_stays _ (goes_stays h g)) (laws.spoiled_stays u v (goes_stays h g) e)
-      (laws.clean_keeps (cleans m n s) u (cleans_stay m laws n s h) (goes_stays h g) (goes_freer h g))
-      (laws.clean_beats_spoiled u v (goes_stays h g) e)
-
-module _ (m : Model) (laws : Laws m) (V : Verdict) (bounded : Bounded V) (p due : ℕ) where
-  -- where a run may be given up, one that starts later and freer may be too, later and freer
-  covered_hit : (row zeros next : List ℕ) → Grew (HitOf m V p m.size row) zeros next → (s t s' t' : ℕ) → Covered m row s t → Strike m V p s t s' t' → Covered m next s' t'
-  covered_hit row zeros next g s t s' t' a h =
-      let n = h.before in
-      let q = V p (n + 1) - (n + 1) in
-      let fs = cleans_stay m laws n a.state a.inside in
-      let ts = cleans_stay m laws n s a.within in
-      let fr = cleans_keep m laws n a.state s a.inside a.within a.freer in
-      let sp = laws.spoiled_keeps (cleans m n a.state) (cleans m n s) h.spoiled fs ts fr h.permitted in
-      let v = sp.0 in
-      let vs = laws.spoiled_stays (cleans m n a.state) v fs sp.1 in
-      let us = laws.spoiled_stays (cleans m n s) h.spoiled ts h.permitted in
-      let hit : Hit m V p p a.state a.time (cleans m q v) (a.time + V p (n + 1)) = record { before = n; early = h.early; spoiled = v; permitted = sp.1; state = refl; time = refl } in
-      let cov = g.covers (cleans m q v) (a.time + V p (n + 1)) (record { from = a.state; start = a.time; below = a.inside; starts = a.entry; hit = hit }) in
-      covered_from m next (cleans m q v) (a.time + V p (n + 1)) s' t' cov (omega (arith, h.time, a.later))
-      (laws.transitive (cleans m q v) (cleans m q h.spoiled) s' (cleans_stay m laws q v vs) (cleans_stay m laws q h.spoiled us) (goes_stays m laws us h.goes) (cleans_keep m laws q v h.spoiled vs us sp.2) (goes_freer m laws us h.goes))
-      (cleans_stay m laws q v vs) (goes_stays m laws us h.goes)
-
-  -- a chain from a row is a start of it, or a chain from the next
-  chain_on : (row zeros next : List ℕ) → Grew (HitOf m V p m.size row) zeros next → (s t : ℕ) → Chain (Strike m V p) (Covered m row) s t → Covered m row s t ⊎ Chain (Strike m V p) (Covered m next) s t
-  chain_on row zeros next g s t (first a) = inl a
-  chain_on row zeros next g s' t' (again {s} {t} r h) =
-      ⊎_elim (λ a. inr (first (covered_hit row zeros next g s t s' t' a h))) (λ c. inr (again c h)) (chain_on row zeros next g s t r)
-
-  chain_none : (row : List ℕ) → ((s t : ℕ) → s < m.size → In row s t → ⊥) → (s t : ℕ) → Chain (Strike m V p) (Covered m row) s t → ⊥
-  chain_none row e s t (first a) = e a.state a.time a.inside a.entry
-  chain_none row e s' t' (again {s} {t} r h) = chain_none row e s t r
-
-  -- a start of the row is done with
-  covered_done : (row finish finish' : List ℕ) → ((s t : ℕ) → s < m.size → In row s t → t + p ≤ due) → Grew (CleanOf m p m.size row) finish finish'
-      → (s t : ℕ) → Covered m row s t → Done m p due finish' s t
-  covered_done row finish finish' o g s t a = record {
-    on_time = omega (arith, o a.state a.time a.inside a.entry, a.later);
-    end = covered_from m finish' (cleans m p a.state) (a.time + p) (cleans m p s) (t + p)
-        (g.covers (cleans m p a.state) (a.time + p) (record { from = a.state; start = a.time; below = a.inside; starts = a.entry; state = refl; time = refl }))
-        (omega (arith, a.later)) (cleans_keep m laws p a.state s a.inside a.within a.freer)
-        (cleans_stay m laws p a.state a.inside) (cleans_stay m laws p s a.within);
-  }
-
-  done_grows : (old new : List ℕ) → ((s : ℕ) → get_or old s 0 ≤ get_or new s 0) → (s t : ℕ) → Done m p due old s t → Done m p due new s t
-  done_grows old new k s t d = record { on_time = d.on_time; end = covered_grows m old new k (cleans m p s) (t + p) d.end }
-
-  pub going_none : (row finish : List ℕ) → Going m V p due 0 row row finish finish
-  going_none row finish = record {
-    reached = λ s t l e. first (l, e);
-    later = λ s t l e. omega arith;
-    sooner = λ z. let bad : ⊥ = omega arith in absurd bad;
-    ended = λ s f e. inl e;
-    covered = λ s t c. inr c;
+module _ (m : Model) (V : Verdict) (p due : ℕ) (row : List ℕ) where
+  -- nothing was gone through
+  pub going_none : (done finish : List ℕ) → Empty done → Going m V p due row row done finish finish
+  going_none done finish z = record {
+    behind = λ s. omega (arith, z s);
+    grown = λ s. omega arith;
+    reached = λ s t i. first i;
+    on_time = λ s t i. absurd (none s t i);
+    closed = λ s t s' t' i h. absurd (none s t i);
+    ended = λ s t i. absurd (none s t i);
+    sound = λ s f i. inl i;
     keeps = λ s. omega arith;
   }
+    where
+      none : (s t : ℕ) → Starts m done s t → ⊥
+      none s t i = omega (arith, i.1, z s)
 
-  hit_timed : (k t s t' s' : ℕ) → k ≤ t → t + p ≤ due → Hit m V p p s t s' t' → (k + 1 ≤ t') × (t' ≤ due)
-  hit_timed k t s t' s' l o h =
-      let a = bounded.from_fault p (h.before + 1) (omega arith) (omega (arith, h.early)) in
-      let b = bounded.to_end p (h.before + 1) (omega arith) (omega (arith, h.early)) in
-      (omega (arith, h.time), omega (arith, h.time))
+  module _ (cur done finish finish' : List ℕ) (g : Going m V p due row cur done finish finish') where
+    -- one start more, at t in the state u
+    pub going_more : (u t e : ℕ) (cur' finish'' : List ℕ) → u < m.size → u < length done → In cur u t → t + p ≤ due → e ≡ cleans m p u →
+        Grew (KeepsOne e (t + p)) finish' finish'' → Grew (Hit m V p 0 p u t) cur cur' → Going m V p due row cur' (set done u (get_or cur u 0)) finish finish''
+    going_more u t e cur' finish'' inside within at by end grew hits = record {
+      behind = λ s. ⊎_elim (λ is. omega (arith, hits.keeps s, ap (λ k. get_or cur k 0) is, now_done s is)) (λ other. omega (arith, g.behind s, hits.keeps s, still s other)) (cases_eq s u);
+      grown = λ s. omega (arith, g.grown s, hits.keeps s);
+      reached = λ s n i. ⊎_elim (λ was. g.reached s n (i.0, was)) (λ hit. again (g.reached u t (inside, at)) by hit) (hits.sound s n i.1);
+      on_time = λ s n i. ⊎_elim (λ is. omega (arith, is_t s n is i.1)) (λ other. g.on_time s n (was s n other i)) (cases_eq s u);
+      closed = λ s n s' n' i h.
+          ⊎_elim (λ is. hits.covers s' n' (subst (λ k. Hit m V p 0 p u k s' n') (is_t s n is i.1) (subst (λ k. Hit m V p 0 p k n s' n') is h)))
+          (λ other. omega (arith, g.closed s n s' n' (was s n other i) h, hits.keeps s')) (cases_eq s u);
+      ended = λ s n i.
+          ⊎_elim (λ is. grew.covers (cleans m p s) (n + p) (ap (cleans m p) is ∙ sym end, ap (λ k. k + p) (is_t s n is i.1)))
+          (λ other. omega (arith, g.ended s n (was s n other i), grew.keeps (cleans m p s))) (cases_eq s u);
+      sound = λ s f i.
+          ⊎_elim (g.sound s f) (λ kept. inr (record { from = u; start = t; chain = g.reached u t (inside, at); state = kept.0 ∙ end; time = kept.1; by = omega (arith, kept.1) })) (grew.sound s f i);
+      keeps = λ s. omega (arith, g.keeps s, grew.keeps s);
+    }
+      where
+        now_done : (s : ℕ) → s ≡ u → get_or (set done u (get_or cur u 0)) s 0 ≡ get_or cur u 0
+        now_done s is = ap (λ k. get_or (set done u (get_or cur u 0)) k 0) is ∙ get_or-set_same done u (get_or cur u 0) 0 within
 
-  pub going_more : (k : ℕ) (row cur zeros next finish finish' finish'' : List ℕ) → Empty zeros
-      → Ran m V p due m.size cur zeros next finish' finish'' → Going m V p due k row cur finish finish' → Going m V p due (k + 1) row next finish finish''
-  going_more k row cur zeros next finish finish' finish'' z r g = record {
-    reached = λ s t l e. ⊎_elim (λ i. let bad : ⊥ = omega (arith, z s) in absurd bad)
-        (λ h. again (g.reached h.from h.start h.below h.starts) h.hit) (r.given_up.sound s t e);
-    later = λ s t l e. ⊎_elim (λ i. let bad : ⊥ = omega (arith, z s) in absurd bad)
-        (λ h. (hit_timed k h.start h.from t s (g.later h.from h.start h.below h.starts) (r.on_time h.from h.start h.below h.starts) h.hit).0) (r.given_up.sound s t e);
-    sooner = λ _ s t l e. ⊎_elim (λ i. let bad : ⊥ = omega (arith, z s) in absurd bad)
-        (λ h. (hit_timed k h.start h.from t s (g.later h.from h.start h.below h.starts) (r.on_time h.from h.start h.below h.starts) h.hit).1) (r.given_up.sound s t e);
-    ended = λ s f e. ⊎_elim (λ i. g.ended s f i)
-        (λ h. inr (record { from = h.from; start = h.start; chain = g.reached h.from h.start h.below h.starts; state = h.state; time = h.time })) (r.finished.sound s f e);
-    covered = λ s t c. ⊎_elim (λ d. inl (done_grows finish' finish'' r.finished.keeps s t d))
-        (λ d. ⊎_elim (λ a. inl (covered_done cur finish' finish'' r.on_time r.finished s t a)) (λ e. inr e) (chain_on cur zeros next r.given_up s t d)) (g.covered s t c);
-    keeps = λ s. omega (arith, g.keeps s, r.finished.keeps s);
-  }
+        still : (s : ℕ) → (s ≡ u → ⊥) → get_or (set done u (get_or cur u 0)) s 0 ≡ get_or done s 0
+        still s other = rw get_or-set_other
 
-  -- no run is left to start
-  pub going_all : (k : ℕ) (row cur finish finish' : List ℕ) → ((s t : ℕ) → s < m.size → In cur s t → ⊥) → Going m V p due k row cur finish finish' → Searched m V p due row finish finish'
-  going_all k row cur finish finish' e g = record {
-    on_time = λ s t c. ⊎_elim (λ d. d.on_time) (λ d. absurd (chain_none cur e s t d)) (g.covered s t c);
-    sound = g.ended;
-    covers = λ s t c. ⊎_elim (λ d. d.end) (λ d. absurd (chain_none cur e s t d)) (g.covered s t c);
-    keeps = g.keeps;
-  }
+        is_t : (s n : ℕ) → s ≡ u → In (set done u (get_or cur u 0)) s n → n ≡ t
+        is_t s n is i = omega (arith, now_done s is, i)
 
-  -- past the due quarter no run is left to start
-  pub going_out : (k : ℕ) (row cur finish finish' : List ℕ) → due < k → Going m V p due k row cur finish finish' → Searched m V p due row finish finish'
-  going_out k row cur finish finish' past g =
-      going_all k row cur finish finish' (λ s t l e. omega (arith, g.later s t l e, g.sooner (omega arith) s t l e)) g
+        was : (s n : ℕ) → (s ≡ u → ⊥) → Starts m (set done u (get_or cur u 0)) s n → Starts m done s n
+        was s n other i = (i.0, sym (still s other) ∙ i.1)
 
-  pub going_late : (k : ℕ) (row cur finish finish' : List ℕ) → LateOf p m.size due cur → Going m V p due k row cur finish finish' → Late (Hit m V p p) p due (Starts m row)
-  going_late k row cur finish finish' l g = record { from = l.from; start = l.start; chain = g.reached l.from l.start l.below l.starts; passes = l.passes }
+    -- every start was gone through
+    pub going_all : ((s : ℕ) → s < m.size → Pending cur done s → ⊥) → Searched m V p due row cur finish finish'
+    going_all never = record {
+      grown = g.grown;
+      reached = g.reached;
+      on_time = λ s t i. g.on_time s t (gone s t i);
+      closed = λ s t s' t' i h. g.closed s t s' t' (gone s t i) h;
+      ended = λ s t i. g.ended s t (gone s t i);
+      sound = g.sound;
+      keeps = g.keeps;
+    }
+      where
+        same : (s : ℕ) → s < m.size → get_or done s 0 ≡ get_or cur s 0
+        same s h = ⊎_elim (λ e. e) (λ ne. absurd (never s h (omega (arith, ne, g.behind s)))) (cases_eq (get_or done s 0) (get_or cur s 0))
+
+        gone : (s t : ℕ) → Starts m cur s t → Starts m done s t
+        gone s t i = (i.0, same s i.0 ∙ i.1)
+
+    -- one passes the due quarter
+    pub going_late : (u t : ℕ) → Starts m cur u t → due < t + p → Passes m V p due row
+    going_late u t at passes = record { from = u; start = t; chain = g.reached u t at; passes = passes }

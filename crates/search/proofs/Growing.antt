@@ -2,14 +2,6 @@
 use Rattle.std.proofs.Common.{ℕ, ◌⊎◌, List, inl, inr, ⊎_elim, arith}
 use Rattle.search.specs.Rows.{Grew}
 
--- nothing is kept
-pub grew_none : {P : ℕ → ℕ → Type 0} (row : List ℕ) → ((s t : ℕ) → P s t → ⊥) → Grew P row row
-grew_none row never = record {
-  sound = λ s t e. inl e;
-  covers = λ s t x. absurd (never s t x);
-  keeps = λ s. omega arith;
-}
-
 -- the same is kept, in other words
 pub grew_like : {P Q : ℕ → ℕ → Type 0} {old new : List ℕ} → ((s t : ℕ) → P s t → Q s t) → ((s t : ℕ) → Q s t → P s t) → Grew P old new → Grew Q old new
 grew_like to from g = record {

@@ -3,5 +3,13 @@ pub mod Cleans
 pub mod Doubling
 pub mod Growing
 pub mod Positions
-pub mod Runs
 pub mod Going
+pub mod Ways
+pub mod Beginnings
+pub mod Dropping
+pub mod Sequencing
+pub mod Boards
+pub mod Exact
+pub mod Sweeping
+pub mod RoundStates
+pub mod RoundGoing

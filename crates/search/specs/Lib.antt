@@ -1,5 +1,11 @@
 pub mod Rows
 pub mod Powers
 pub mod Hits
-pub mod Rounds
 pub mod Chains
+pub mod Fronts
+pub mod Jobs
+pub mod Sequences
+pub mod Fit
+pub mod Answers
+pub mod RoundChains
+pub mod Rounds

@@ -11,7 +11,7 @@ pub record HitOf (m : Model) (V : Verdict) (p n : ℕ) (row : List ℕ) (s' t' :
   pub start : ℕ
   pub below : from < n
   pub starts : In row from start
-  pub hit : Hit m V p p from start s' t'
+  pub hit : Hit m V p 0 p from start s' t'
 
 -- A run that starts as the row has it, in a state below n, is clean and ends at t' in the state s'.
 pub record CleanOf (m : Model) (p n : ℕ) (row : List ℕ) (s' t' : ℕ) : Type 0 where

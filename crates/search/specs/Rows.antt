@@ -1,5 +1,5 @@
 -- A row of the worktable has for each state 0, or one more than the latest time.
-use Rattle.std.specs.Prelude.{◌≡◌, ℕ, ◌+◌, ◌<◌, ◌≤◌, ◌⊎◌, List, slice_index}
+use Rattle.std.specs.Prelude.{◌≡◌, ℕ, ◌+◌, ◌<◌, ◌≤◌, ◌⊎◌, ◌↔◌, List, slice_index}
 
 -- the row's time for the state s is t
 abbrev pub In : List ℕ → ℕ → ℕ → Type 0
@@ -12,6 +12,14 @@ Covers row s t = t < slice_index row s
 -- the row has no time
 abbrev pub Empty : List ℕ → Type 0
 Empty row = (s : ℕ) → slice_index row s ≡ 0
+
+-- the row has a later time for the state s than `done` has
+abbrev pub Pending : List ℕ → List ℕ → ℕ → Type 0
+Pending row done s = slice_index done s < slice_index row s
+
+-- `new` has the times of `old` that are not before r
+abbrev pub Since : ℕ → List ℕ → List ℕ → Type 0
+Since r old new = (s t : ℕ) → In new s t ↔ (In old s t × (r ≤ t))
 
 -- just this time for this state
 abbrev pub KeepsOne : ℕ → ℕ → ℕ → ℕ → Type 0

@@ -1,6 +1,8 @@
 // One job's rounds.
-use crate::powers::fill;
-use crate::rounds::rounds;
+use crate::judge::Judge;
+use crate::powers::{CleanQuarters, POWERS};
+use crate::rows::ROW;
+use crate::runs::Task;
 use inspections::AtEnd;
 use rules::Count;
 
@@ -8,24 +10,19 @@ use rules::Count;
 #[test]
 fn three_runs(rt: HostRuntime) {
     let rule = Count::new(2);
-    let mut powers = [0u32; 3584];
-    fill(&rule, &mut powers);
+    let mut leads = [[0u32; ROW]; POWERS];
+    let judge = Judge {
+        clean: CleanQuarters::new(&rule, &mut leads),
+        inspection: &AtEnd,
+    };
     for (due, late) in [(21, true), (22, false)] {
-        let mut starts = [0u32; 512];
-        let mut next = [0u32; 512];
-        let mut finish = [0u32; 512];
+        let mut starts = [0u32; ROW];
+        let mut next = [0u32; ROW];
+        let mut finish = [0u32; ROW];
         starts[2] = 11;
+        let task = Task { quarters: 4, due };
         assert_eq!(rt;
-            rounds(
-                &rule,
-                &AtEnd,
-                &powers,
-                4,
-                due,
-                &mut starts,
-                &mut next,
-                &mut finish,
-            ),
+            judge.rounds(task, &mut starts, &mut next, &mut finish),
             late
         );
         assert_eq!(rt; finish[2], 15);

@@ -1,9 +1,9 @@
 // Boards to search, and the search over a table with old content.
 use calls::{Job, Refusal};
-use exact_search::search;
 use inspections::Inspection;
 use rules::Rule;
 use schedules::{Moment, Run};
+use search::search;
 use std::process::Abort;
 
 // The last due quarter.

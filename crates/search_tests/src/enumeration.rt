@@ -15,31 +15,26 @@ fn is_spoiled(faults: u32, quarter: u32) -> bool {
     quarter <= QUARTERS && quarter >= 1 && (faults >> ((quarter - 1) % 32)) % 2 == 1
 }
 
-// One quarter of a run: what it leaves on the machine, and whether the job is finished.
-fn after_quarter<I: Inspection>(inspection: &I, spoiled: bool, run: Run) -> (Option<Run>, bool) {
+// What a quarter of the run leaves on the machine: nothing where the job is finished.
+fn after_quarter<I: Inspection>(inspection: &I, spoiled: bool, run: Run) -> Option<Run> {
     let gone = run.gone.saturating_add(1);
     let hit = match run.hit {
         None if spoiled => Some(inspection.given_up_after(run.job.length, gone)),
         hit => hit,
     };
     match hit {
-        None if gone >= run.job.length => (None, true),
-        Some(given_up) if gone >= given_up => (
-            Some(Run {
-                job: run.job,
-                gone: 0,
-                hit: None,
-            }),
-            false,
-        ),
-        _ => (
-            Some(Run {
-                job: run.job,
-                gone,
-                hit,
-            }),
-            false,
-        ),
+        None if gone >= run.job.length => None,
+        Some(given_up) if gone >= given_up => Some(first_run(run.job)),
+        _ => Some(Run { gone, hit, ..run }),
+    }
+}
+
+// A run of the job that begins.
+fn first_run(job: Job) -> Run {
+    Run {
+        job,
+        gone: 0,
+        hit: None,
     }
 }
 
@@ -52,8 +47,8 @@ fn played<R: Rule, I: Inspection>(
     faults: u32,
 ) -> Option<[u32; 4]> {
     let mut finishes = [u32::MAX; 4];
-    let mut finished = 0usize;
-    let mut next = 0usize;
+    let mut places = finishes.iter_mut();
+    let mut left = waiting;
     let mut state = moment.state;
     let mut machine = moment.machine;
     for clock in 0..WALKED {
@@ -69,20 +64,18 @@ fn played<R: Rule, I: Inspection>(
         } else {
             rule.after_clean(state)?
         };
-        if machine.is_none() && next < waiting.len() && waiting[next].release <= clock {
-            machine = Some(Run {
-                job: waiting[next],
-                gone: 0,
-                hit: None,
-            });
-            next = next.saturating_add(1);
+        if let (None, [job, rest @ ..]) = (machine, left) {
+            if job.release <= clock {
+                machine = Some(first_run(*job));
+                left = rest;
+            }
         }
         if let Some(run) = machine {
-            let (after, over) = after_quarter(inspection, spoiled, run);
-            machine = after;
-            if over && finished < 4 {
-                finishes[finished] = clock + 1;
-                finished = finished.saturating_add(1);
+            machine = after_quarter(inspection, spoiled, run);
+            if machine.is_none() {
+                if let Some(finish) = places.next() {
+                    *finish = clock + 1;
+                }
             }
         }
     }
@@ -99,8 +92,8 @@ pub(crate) fn worst<R: Rule, I: Inspection>(
     let mut worst = [0u32; 4];
     for faults in 0..1u32 << QUARTERS {
         if let Some(finishes) = played(rule, inspection, moment, waiting, faults) {
-            for place in 0..4usize {
-                worst[place] = worst[place].max(finishes[place]);
+            for (most, finish) in worst.iter_mut().zip(finishes) {
+                *most = (*most).max(finish);
             }
         }
     }

@@ -58,57 +58,32 @@ fn gaps(rt: HostRuntime) {
 #[test]
 fn due_quarters(rt: HostRuntime) {
     let rule = Gap::new(5);
-    let kept = [job(1, 0, 4, 2), job(2, 0, 8, 2), job(3, 0, 10, 2)];
-    check_search(&rt, &rule, &AtEnd, fresh(&rule), &kept, Ok(()), &[4, 8, 10]);
-    let first = [job(1, 0, 3, 2), job(2, 0, 7, 2), job(3, 0, 10, 2)];
-    check_search(
-        &rt,
-        &rule,
-        &AtEnd,
-        fresh(&rule),
-        &first,
-        Err(Refusal::Late { ticket: 1 }),
-        &[],
-    );
-    let second = [job(1, 0, 4, 2), job(2, 0, 7, 2), job(3, 0, 10, 2)];
-    check_search(
-        &rt,
-        &rule,
-        &AtEnd,
-        fresh(&rule),
-        &second,
-        Err(Refusal::Late { ticket: 2 }),
-        &[4],
-    );
-    let third = [job(1, 0, 4, 2), job(2, 0, 8, 2), job(3, 0, 9, 2)];
-    check_search(
-        &rt,
-        &rule,
-        &AtEnd,
-        fresh(&rule),
-        &third,
-        Err(Refusal::Late { ticket: 3 }),
-        &[4, 8],
-    );
-    let one = Count::new(1);
-    check_search(
-        &rt,
-        &one,
-        &AtEnd,
-        fresh(&one),
-        &[job(1, 0, 5, 3)],
-        Err(Refusal::Late { ticket: 1 }),
-        &[],
-    );
-    check_search(
-        &rt,
-        &one,
-        &AtEnd,
-        fresh(&one),
-        &[job(1, 0, 6, 3)],
-        Ok(()),
-        &[6],
-    );
+    for (due, answer, worst) in [
+        ([4, 8, 10], Ok(()), &[4, 8, 10][..]),
+        ([3, 7, 10], Err(Refusal::Late { ticket: 1 }), &[]),
+        ([4, 7, 10], Err(Refusal::Late { ticket: 2 }), &[4]),
+        ([4, 8, 9], Err(Refusal::Late { ticket: 3 }), &[4, 8]),
+    ] {
+        let jobs = [
+            job(1, 0, due[0], 2),
+            job(2, 0, due[1], 2),
+            job(3, 0, due[2], 2),
+        ];
+        check_search(&rt, &rule, &AtEnd, fresh(&rule), &jobs, answer, worst);
+    }
+}
+
+// One job of 3 quarters and at most one fault, due one quarter before its worst finish and just then.
+#[test]
+fn due_quarters_of_one(rt: HostRuntime) {
+    let rule = Count::new(1);
+    for (due, answer, worst) in [
+        (5, Err(Refusal::Late { ticket: 1 }), &[][..]),
+        (6, Ok(()), &[6]),
+    ] {
+        let jobs = [job(1, 0, due, 3)];
+        check_search(&rt, &rule, &AtEnd, fresh(&rule), &jobs, answer, worst);
+    }
 }
 
 // A run of 4 quarters of which 2 are gone at clock 2, and 2 quarters behind it; one fault may come.

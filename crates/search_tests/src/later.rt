@@ -11,15 +11,11 @@ pub(crate) struct QuarterLater;
 impl Inspection for QuarterLater {
     const LETTER: char = 'Q';
 
-    ghost letter = { 81 };
+    ghost LETTER = { 81 };
 
     ghost verdict = { λ _. quarter_later };
 
     ghost bounded = { Prim.search rules };
-
-    fn sign() -> char {
-        Self::LETTER
-    }
 
     fn given_up_after(&self, length: u32, first_fault: u32) -> u32 {
         if 1 <= first_fault && first_fault <= length {

@@ -1,17 +1,17 @@
 // Boards at the limits, and boards that the search refuses.
 use crate::boards::{LAST, check_search, fresh, job, running};
 use calls::{Job, Refusal};
-use exact_search::search;
 use inspections::AtEnd;
 use rules::{Count, Gap};
 use schedules::Moment;
+use search::search;
 use std::process::Abort;
 
 // 24 jobs of this length, all due at the last quarter, with the tickets from 1 on.
 fn full(length: u32) -> [Job; 24] {
     let mut jobs = [job(1, 0, LAST, length); 24];
-    for place in 0..24u32 {
-        jobs[place as usize].ticket = place + 1;
+    for (place, job) in jobs.iter_mut().enumerate() {
+        job.ticket = place as u32 + 1;
     }
     jobs
 }
@@ -19,8 +19,8 @@ fn full(length: u32) -> [Job; 24] {
 // The quarters of n + k runs of this length, for each n from 1 to 24.
 fn after_runs(length: u32, k: u32) -> [u32; 24] {
     let mut quarters = [0u32; 24];
-    for place in 0..24u32 {
-        quarters[place as usize] = (place + 1).saturating_add(k).saturating_mul(length);
+    for (place, end) in quarters.iter_mut().enumerate() {
+        *end = (place as u32 + 1).saturating_add(k).saturating_mul(length);
     }
     quarters
 }

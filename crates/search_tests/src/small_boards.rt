@@ -11,18 +11,11 @@ use std::process::Abort;
 
 // The place and the ticket of the first job with a finish after its due quarter.
 fn first_late(finishes: &[u32; 4], moment: &Moment, waiting: &[Job]) -> Option<(usize, u32)> {
-    let mut place = 0usize;
-    if let Some(run) = &moment.machine {
-        if finishes[0] > run.job.due {
-            return Some((0, run.job.ticket));
-        }
-        place = 1;
-    }
-    for job in waiting {
-        if place < 4 && finishes[place] > job.due {
+    let board = moment.machine.iter().map(|run| &run.job).chain(waiting);
+    for (place, (job, finish)) in board.zip(finishes).enumerate() {
+        if *finish > job.due {
             return Some((place, job.ticket));
         }
-        place = place.saturating_add(1);
     }
     None
 }

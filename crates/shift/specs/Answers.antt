@@ -2,7 +2,7 @@
 use Rattle.std.specs.Prelude.{ℕ, Bool, false, cond, ◌||◌, List, [], ◌∷◌, Ok, Err, Result, ◌==◌}
 use Rattle.board.specs.Quarters.{Moment, Quarter, moment, passed, spoiled}
 use Rattle.calls.specs.declared.answer.Answer.{Answer}
-use Rattle.calls.specs.declared.answer.Answer.TheVariants.{Quarter as QuarterOver, Refused}
+use Rattle.calls.specs.declared.answer.Answer.TheVariants.{Quarter as QuarterOver}
 use Rattle.calls.specs.declared.answer.Event.{Event}
 use Rattle.calls.specs.declared.call.Call.{Call}
 use Rattle.calls.specs.declared.call.Call.TheVariants.{Book, Pass, Spoil, Withdraw}
@@ -22,16 +22,16 @@ heard line = cond (unheard line) (malformed 1) (call line)
 
 -- an answer, and the moment after it
 pub record Turn : Type 0 where
-  pub answer : Answer
+  pub answer : Result Answer Refusal
   pub after : Moment
 
 -- the answer that a quarter gives
-abbrev pub over : Result Event Refusal → Answer
-over (Ok event) = QuarterOver event
-over (Err refusal) = Refused refusal
+abbrev pub over : Result Event Refusal → Result Answer Refusal
+over (Ok event) = Ok (QuarterOver event)
+over (Err refusal) = Err refusal
 
 -- the answer, and the moment of a clock and a state
-abbrev pub turn : Answer → ℕ → ℕ → Turn
+abbrev pub turn : Result Answer Refusal → ℕ → ℕ → Turn
 turn answer clock state = record { answer = answer; after = moment clock state }
 
 -- the answer and the moment that a quarter gives
@@ -40,7 +40,7 @@ quarter_turn quarter = record { answer = over quarter.answer; after = quarter.af
 
 -- nothing moves at a refusal
 abbrev pub refused : Refusal → Moment → Turn
-refused refusal w = record { answer = Refused refusal; after = w }
+refused refusal w = record { answer = Err refusal; after = w }
 
 -- what a line is answered, by the call that was heard; bookings and withdrawals are not heard yet
 abbrev pub answered : Model → Moment → Result Call Refusal → Turn

@@ -1,11 +1,12 @@
 // Lines in, replies out.
-ghost use Rattle.std.specs.Prelude.{◌≡◌, ◌≤◌, ◌++◌, string_bytes, OnOk};
+ghost use Rattle.std.specs.Prelude.{◌≡◌, ◌++◌, string_bytes, OnOk};
 ghost use Rattle.shift_text.specs.Replies.{reply_line};
 
+use calls::Refusal;
 use shift_text::{LineBuffer, Reply, ReplyLine};
 use std::alloc::Global;
 use std::io;
-use std::io::{Read, Write};
+use std::io::{BufRead, BufReader, Read, Write};
 
 // So many bytes are asked for at a time.
 const CHUNK: usize = 4096;
@@ -16,32 +17,26 @@ const LONGEST_REPLY: usize = 16;
 // Room for the replies to as many lines as a chunk can hold.
 const REPLIES: usize = LONGEST_REPLY * CHUNK;
 
-// The input in chunks, and the replies that are not written yet.
+// The input with the line that was read last, and the replies that are not written yet. These wait in a `String`, of which a
+// contract says what is in it whatever the output is.
 #[derive(Drop)]
 pub(crate) struct Console<I: Read, O: Write> {
-    input: I,
-    output: O,
-    chunk: [u8; CHUNK],
-    at: usize,
-    end: usize,
+    input: BufReader<I>,
     ended: bool,
+    line: LineBuffer,
     replies: String,
-    ghost ahead: { at ≤ end },
-    ghost within: { end ≤ 4096 },
+    output: O,
 }
 
 impl<I: Read + Drop, O: Write + Drop> Console<I, O> {
     // A console that has read nothing. It asks for all the memory that it needs.
     pub(crate) fn new(input: I, output: O, heap: Global) -> io::Result<Console<I, O>> {
-        let replies = String::with_capacity(heap, REPLIES)?;
         Ok(Console {
-            input,
-            output,
-            chunk: [0; CHUNK],
-            at: 0,
-            end: 0,
+            input: BufReader::with_capacity(heap, CHUNK, input)?,
             ended: false,
-            replies,
+            line: LineBuffer::new(),
+            replies: String::with_capacity(heap, REPLIES)?,
+            output,
         })
     }
 
@@ -52,41 +47,39 @@ impl<I: Read + Drop, O: Write + Drop> Console<I, O> {
         self.output.flush()
     }
 
-    // More of the input, or false at its end. Before it waits for input it writes the replies.
+    // Reads more of the input, or answers false at its end, behind which it does not read again. Before it waits for input it
+    // writes the replies.
     fn refill(&mut self) -> io::Result<bool> {
         self.flush()?;
-        if self.ended {
-            return Ok(false);
-        }
-        let count = self.input.read(&mut self.chunk)?;
-        self.at = 0;
-        self.end = count;
-        self.ended = count == 0;
-        Ok(count > 0)
+        self.ended = self.ended || self.input.fill_buf()?.is_empty();
+        Ok(!self.ended)
     }
 
-    // The next line, without its line feed, which the last line may lack; false where there is no line more.
-    pub(crate) fn read_line(&mut self, line: &mut LineBuffer) -> io::Result<bool> {
-        line.clear();
+    // The next line, without its line feed, which the last line may lack; None where there is no line more.
+    pub(crate) fn next_line(&mut self) -> io::Result<Option<&[u8]>> {
+        self.line.clear();
         let mut begun = false;
+        // A loop must be seen to end; no input has so many chunks.
         for _ in 0..u64::MAX {
-            if self.at >= self.end && !self.refill()? {
-                return Ok(begun);
-            }
-            match line.feed(&self.chunk[self.at..self.end]) {
-                Some(place) => {
-                    self.at += place + 1;
-                    return Ok(true);
-                }
-                None => self.at = self.end,
+            if self.input.buffer().is_empty() && !self.refill()? {
+                break;
             }
             begun = true;
+            let chunk = self.input.buffer();
+            let length = chunk.len();
+            match self.line.feed(chunk) {
+                Some(place) => {
+                    self.input.consume(place + 1);
+                    break;
+                }
+                None => self.input.consume(length),
+            }
         }
-        Ok(begun)
+        Ok(begun.then_some(self.line.bytes()))
     }
 
     // The reply to the line of this number.
-    pub(crate) fn reply(&mut self, number: u32, reply: Reply) -> io::Result<()>
+    pub(crate) fn reply(&mut self, number: u32, reply: Result<Reply, Refusal>) -> io::Result<()>
         ensures { OnOk result (string_bytes self.new.replies ≡ string_bytes self.old.replies ++ reply_line number reply) }
     {
         let line = ReplyLine { number, reply };

@@ -2,10 +2,9 @@
 use crate::answers::answer;
 use crate::console::Console;
 use board::Board;
-use calls::Answer;
 use inspections::{AtEnd, AtFault, Inspection};
 use rules::{Both, Count, Gap, Rule};
-use shift_text::{FaultRule, InspectionKind, LineBuffer, Opening, Reply, read_opening};
+use shift_text::{FaultRule, InspectionKind, Opening, Reply, read_opening};
 use std::alloc::Global;
 use std::io;
 use std::io::{Read, Write};
@@ -20,13 +19,12 @@ pub(crate) fn run<I: Read + Drop, O: Write + Drop>(
     heap: Global,
 ) -> io::Result<()> {
     let mut console = Console::new(input, output, heap)?;
-    let mut line = LineBuffer::new();
-    if !console.read_line(&mut line)? {
+    let Some(line) = console.next_line()? else {
         return Ok(());
-    }
-    match read_opening(line.bytes()) {
+    };
+    match read_opening(line) {
         Ok(opening) => under_rule(&mut console, opening)?,
-        Err(refusal) => console.reply(1, Reply::Answered(Answer::Refused(refusal)))?,
+        Err(refusal) => console.reply(1, Err(refusal))?,
     }
     console.flush()
 }
@@ -67,16 +65,15 @@ fn serve<I: Read + Drop, O: Write + Drop, R: Rule + Drop, S: Inspection + Drop>(
     let size = rule.size();
     let mut board = match Board::open(rule, inspection) {
         Ok(board) => board,
-        Err(refusal) => return console.reply(1, Reply::Answered(Answer::Refused(refusal))),
+        Err(refusal) => return console.reply(1, Err(refusal)),
     };
-    console.reply(1, Reply::Opened { size })?;
-    let mut line = LineBuffer::new();
-    for number in 2..MOST_LINES + 1 {
-        if !console.read_line(&mut line)? {
+    console.reply(1, Ok(Reply::Opened { size }))?;
+    for number in 2..=MOST_LINES {
+        let Some(line) = console.next_line()? else {
             break;
-        }
-        let answer = answer(&mut board, line.bytes());
-        console.reply(number, Reply::Answered(answer))?;
+        };
+        let answer = answer(&mut board, line);
+        console.reply(number, answer.map(Reply::Answered))?;
     }
     Ok(())
 }

@@ -7,6 +7,7 @@ use Rattle.shift_text.specs.Fields.{Field, beside, fields, first, one_byte}
 use Rattle.shift_text.specs.Lines.{at_field, ended, lettered}
 use Rattle.shift_text.specs.Texts.{Begun}
 use Rattle.std.proofs.lemmas.Bool.{cond-true, le-leb}
+use Rattle.std.proofs.lemmas.Option.{none-some, same_Some}
 
 -- a reader of the fields from field i on
 abbrev pub Reader : Type 0 → Type 0
@@ -37,12 +38,6 @@ malformed_is i r e = let is : Malformed i ≡ r = cc in sym is ∙ ap Malformed 
 
 nil_cons : (f : Field) (fs : List Field) → [] ≡ f ∷ fs → ⊥
 nil_cons f fs e = grind arith
-
-none_some : {A : Type 0} (a : A) → None ≡ Some a → ⊥
-none_some a e = grind arith
-
-some_same : {A : Type 0} (a b : A) → Some a ≡ Some b → a ≡ b
-some_same a b e = cc
 
 pub ended_names : {X : Type 0} (i : ℕ) (x : X) → Names i (λ fs. ended i fs x)
 ended_names {X} i x = record { fields = []; value = x; taken = refl; wrong = refuses }
@@ -132,14 +127,14 @@ module _ {A X : Type 0} (i : ℕ) (read : Field → Option A) (next : A → Read
           never = λ gs x t b.
               let p = taken_first gs x t in
               let q = first_of p.1 f (take (suc w.more) p.2) (take (suc w.more) fs) (ap (take (suc (suc w.more))) (sym p.4) ∙ b) in
-              let same : p.0 ≡ a = (let e1 = p.3 in let e2 = ap read q.0 in some_same p.0 a (sym e1 ∙ e2 ∙ is)) in
+              let same : p.0 ≡ a = (let e1 = p.3 in let e2 = ap read q.0 in same_Some p.0 a (sym e1 ∙ e2 ∙ is)) in
               w.never p.2 x (subst (λ v. next v p.2 ≡ Ok x) same p.5) q.1;
         }
 
     by_read : (f : Field) (fs : List Field) (r : Refusal) (o : Option A) → read f ≡ o → at_field i (beside o fs) next ≡ Err r → Wrong i field (f ∷ fs) r
     by_read f fs r None is e =
         here (f ∷ fs) r fields0 (after a0).value taken0 (malformed_is {X = X} i r e)
-        (λ a g hs found b. none_some a (sym is ∙ ap read (sym (first_of g f [] [] b).0) ∙ found))
+        (λ a g hs found b. none-some a (sym is ∙ ap read (sym (first_of g f [] [] b).0) ∙ found))
     by_read f fs r (Some a) is e = later f fs r a is e
 
     refuses : (fs : List Field) (r : Refusal) → field fs ≡ Err r → Wrong i field fs r

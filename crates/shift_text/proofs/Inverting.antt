@@ -1,6 +1,7 @@
 -- What a line that says a call has in its fields.
 use Rattle.std.proofs.Common.{◌≡◌, ℕ, ◌<◌, ◌≤◌, Bool, true, false, cond, leb, List, [], ◌∷◌, ◌++◌, length, Some, None, Ok, decimal, Option, Result, sym, refl, ap, ◌∙◌, inl, inr, append-nil, arith}
 use Rattle.std.proofs.lemmas.Bool.{cases_eq, cond-true, le-leb}
+use Rattle.std.proofs.lemmas.Option.{some_pair_parts}
 use Rattle.std.specs.List.{AllByRecursion}
 use Rattle.calls.specs.declared.refusal.Refusal.{Refusal}
 use Rattle.shift_text.specs.Fields.{Field, beside, fields, first, number, one_byte, onto}
@@ -21,8 +22,7 @@ ended_ok i (f ∷ fs) x y e = absurd (grind arith)
 
 pub beside_some : {A : Type 0} (o : Option A) (a : A) (fs gs : List Field) → beside o fs ≡ Some (a, gs) → (o ≡ Some a) × (fs ≡ gs)
 beside_some None a fs gs e = absurd (grind arith)
-beside_some {A} (Some b) a fs gs e =
-    let p : ◌≡◌ {A = A × List Field} (b, fs) (a, gs) = cc in (ap (λ (q : A × List Field). Some q.0) p, ap (λ (q : A × List Field). q.1) p)
+beside_some (Some b) a fs gs e = let p = some_pair_parts b a fs gs e in (ap Some p.0, p.1)
 
 -- the first field, by what was read of it
 pub first_some : {A : Type 0} (read : Field → Option A) (a : A) (fs gs : List Field) → first read fs ≡ Some (a, gs) → (f : Field) × (read f ≡ Some a) × (fs ≡ f ∷ gs)

@@ -1,61 +1,75 @@
--- One byte more of a line, of which the first 81 are kept.
-use Rattle.std.proofs.Common.{◌≡◌, ℕ, ◌+◌, ◌<◌, ◌≤◌, ltb, List, [], ◌∷◌, ◌++◌, length, get_or, take, set, None, sym, ap, ◌∙◌, subst, inl, inr, append_assoc, append-nil, arith, length-append, length-take}
-use lib.Seq.{take-append-le}
-use Rattle.shift_text.specs.Buffers.{Buffer, Fed, GoesOn, Holds, buffer, content, pushed}
+-- More bytes of a line, of which the first 81 are kept.
+use Rattle.std.proofs.Common.{◌≡◌, ℕ, ◌+◌, ◌-◌, ◌≤◌, Bool, eqb, ltb, List, ◌++◌, length, get_or, min, take, Some, None, Option, sym, ap, ◌∙◌, inl, inr, arith, length-take}
+use Rattle.shift_text.specs.Buffers.{Fed, GoesOn}
 use Rattle.shift_text.specs.Lines.{kept}
-use Rattle.std.proofs.lemmas.List.{take_all, take_more, take_more_set}
-use Rattle.std.proofs.lemmas.Bool.{cases_lt, cond-false, cond-true, le-ltb, lt-ltb}
+use Rattle.std.proofs.Math.Nat.{min_comm}
+use Rattle.std.proofs.Math.Seq.{take-append-add}
+use Rattle.std.proofs.lemmas.Bool.{cases_lt, cond-true, eqb-true, lt-ltb}
+use Rattle.std.proofs.lemmas.Bool.Decides.{nat_tests}
+use Rattle.std.proofs.lemmas.List.{take-append-le, take-take, take_all, take_min}
+use Rattle.std.proofs.lemmas.List.Quantifiers.{position-Some}
+use Rattle.std.proofs.lemmas.List.Sums.{fails_before_first}
+use Rattle.std.proofs.lemmas.Option.{none-some}
+use Rattle.std.proofs.lemmas.Slice.{take-put_mid}
+use borrow.Rule.Slice.PartMut.{put_mid}
+use Rattle.std.specs.List.{position, position_or_len}
+use Rattle.std.specs.Option.{unwrap_or}
 
--- a buffer of n bytes has n bytes of its line
-long : (b : Buffer) (line : List ℕ) → length b.bytes ≡ 81 → b.used ≤ 81 → Holds b line → length (kept line) ≡ b.used
-long b line all within holds = sym (ap length holds) ∙ length-take b.used b.bytes ∙ omega arith
-
-holds_more : (b : Buffer) (line : List ℕ) (byte : ℕ) → length b.bytes ≡ 81 → b.used < 81 → Holds b line →
-    Holds (buffer (set b.bytes b.used byte) (b.used + 1)) (line ++ (byte ∷ []))
-holds_more b line byte all room holds =
-    let few = long b line all (omega arith) holds in
-    let short = length-take 81 line in
-    let longer = length-append line (byte ∷ []) in
-    take_more_set b.bytes b.used byte (omega arith)
-    ∙ ap (λ bs. bs ++ (byte ∷ [])) (holds ∙ take_all 81 line (omega arith))
-    ∙ sym (take_all 81 (line ++ (byte ∷ [])) (omega arith))
-
-holds_full : (b : Buffer) (line : List ℕ) (byte : ℕ) → length b.bytes ≡ 81 → b.used ≡ 81 → Holds b line → Holds b (line ++ (byte ∷ []))
-holds_full b line byte all full holds =
-    let few = long b line all (omega arith) holds in
-    let short = length-take 81 line in
-    let past : 81 ≤ length line = omega arith in
-    holds ∙ sym (take-append-le 81 line (byte ∷ []) past)
-
-pushed_goes_on : (b : Buffer) (byte : ℕ) → length b.bytes ≡ 81 → b.used ≤ 81 → GoesOn b (pushed b byte) (byte ∷ [])
-pushed_goes_on b byte all within line holds =
-    elim (cases_lt b.used 81) [
-      | inl room ↦
-          ap content (cond-true (ltb b.used 81) (buffer (set b.bytes b.used byte) (b.used + 1)) b (lt-ltb b.used 81 room))
-          ∙ holds_more b line byte all room holds
-      | inr full ↦
-          ap content (cond-false (ltb b.used 81) (buffer (set b.bytes b.used byte) (b.used + 1)) b (le-ltb b.used 81 full))
-          ∙ holds_full b line byte all (omega arith) holds
+-- what is kept of the kept bytes and more is what is kept of the whole line and more
+kept_append : (line bs : List ℕ) → kept (kept line ++ bs) ≡ kept (line ++ bs)
+kept_append line bs =
+    elim (cases_lt (length line) 81) [
+      | inl short ↦ ap (λ l. kept (l ++ bs)) (take_all 81 line (omega arith))
+      | inr long ↦
+          take-append-le 81 (kept line) bs (omega (arith, length-take 81 line))
+          ∙ take-take 81 81 line (omega arith)
+          ∙ sym (take-append-le 81 line bs long)
     ]
 
--- one byte more
-pub goes_on : (b a : Buffer) (byte : ℕ) → length b.bytes ≡ 81 → b.used ≤ 81 → a ≡ pushed b byte → GoesOn b a (byte ∷ [])
-goes_on b a byte all within is line holds = ap content is ∙ pushed_goes_on b byte all within line holds
+pub goes_on : (before after bs : List ℕ) → after ≡ kept (before ++ bs) → GoesOn before after bs
+goes_on before after bs e line holds = e ∙ ap (λ b. kept (b ++ bs)) holds ∙ kept_append line bs
 
-pub goes_on_none : (b : Buffer) (chunk : List ℕ) → GoesOn b b (take 0 chunk)
-goes_on_none b chunk line holds = holds ∙ ap kept (sym (append-nil line))
+-- as many bytes as there is room for
+with_room : (b bs : List ℕ) (room : ℕ) → room + length b ≡ 81 → b ++ take (min (length bs) room) bs ≡ kept (b ++ bs)
+with_room b bs room all =
+    let whole : length b + room ≡ 81 = omega arith in
+    ap (λ cs. b ++ cs) (ap (λ n. take n bs) (min_comm (length bs) room) ∙ take_min room bs)
+    ∙ sym (take-append-add b bs room)
+    ∙ ap (λ n. take n (b ++ bs)) whole
 
--- one byte more of a chunk
-pub goes_on_more : (b a d : Buffer) (chunk : List ℕ) (i byte : ℕ) → i < length chunk → byte ≡ get_or chunk i 0 → GoesOn b a (take i chunk) → GoesOn a d (byte ∷ []) →
-    GoesOn b d (take (i + 1) chunk)
-goes_on_more b a d chunk i byte within is before more line holds =
-    more (line ++ take i chunk) (before line holds)
-    ∙ ap kept (append_assoc line (take i chunk) (byte ∷ []) ∙ ap (λ bs. line ++ bs) (ap (λ x. take i chunk ++ (x ∷ [])) is ∙ sym (take_more chunk i 0 within)))
+-- The first `used` of the 81 places are in use, and then `room` more, in which as many bytes stand.
+pub appended : (xs ys bs : List ℕ) (used room k : ℕ) → length xs ≡ 81 → used ≤ 81 → room ≡ min (length bs) (81 - used) → ys ≡ take room bs →
+    take (used + room) (put_mid used k xs ys) ≡ kept (take used xs ++ bs)
+appended xs ys bs used room k all within is e =
+    let front = length-take used xs in
+    let behind : length ys ≡ room = ap length e ∙ length-take room bs ∙ omega arith in
+    take-put_mid used k xs ys (used + room) (omega arith) (omega arith)
+    ∙ ap (λ cs. take used xs ++ cs) (e ∙ ap (λ n. take n bs) is)
+    ∙ with_room (take used xs) bs (81 - used) (omega arith)
 
--- no byte of the chunk was a line feed
-pub fed_all : (b a : Buffer) (chunk : List ℕ) (i : ℕ) → i ≡ length chunk → ((k : ℕ) → k < i → get_or chunk k 0 ≡ 10 → ⊥) → GoesOn b a (take i chunk) → Fed b a chunk None
-fed_all b a chunk i end before goes = record {
-  place = tt;
-  first = λ k h. before k (omega arith);
-  taken = subst (λ n. GoesOn b a (take n chunk)) end goes;
-}
+-- a byte is a line feed
+abbrev feeds : ℕ → Bool
+feeds b = eqb b 10
+
+no_feed : (chunk : List ℕ) → None ≡ position feeds chunk → length chunk ≤ position_or_len feeds chunk
+no_feed chunk e =
+    let n = position_or_len feeds chunk in
+    elim (cases_lt n (length chunk)) [
+      | inl lt ↦ absurd (none-some n (e ∙ cond-true (ltb n (length chunk)) (Some n) None (lt-ltb n (length chunk) lt)))
+      | inr ge ↦ ge
+    ]
+
+-- the chunk up to its first line feed
+pub fed : (before after chunk : List ℕ) (r : Option ℕ) → r ≡ position feeds chunk → after ≡ kept (before ++ take (unwrap_or r (length chunk)) chunk) → Fed before after chunk r
+fed before after chunk None is e =
+    let past = no_feed chunk is in record {
+      place = tt;
+      first = λ k lt h. let f = fails_before_first feeds chunk k 0 (omega arith) in grind (arith, nat_tests);
+      taken = goes_on before after (take (length chunk) chunk) e;
+    }
+fed before after chunk (Some i) is e =
+    let p = position-Some feeds chunk i 0 (sym is) in record {
+      place = (p.0, eqb-true (get_or chunk i 0) 10 p.1);
+      first = λ k lt h. let f = p.2 k lt in grind (arith, nat_tests);
+      taken = goes_on before after (take i chunk) e;
+    }

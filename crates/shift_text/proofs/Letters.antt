@@ -30,3 +30,5 @@ byte_wrong (b ∷ c ∷ bs) two ne me =
     let k = cut bs in
     let split = fields_byte b (c ∷ bs) ne ∙ ap (onto b) (fields_byte c bs me ∙ ap (onto c) k.is) in
     ap (first one_byte) split
+
+pub ruleset by_first_bytes = (byte_none, byte_tab, byte_alone, byte_more, byte_wrong)

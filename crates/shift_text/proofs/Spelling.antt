@@ -1,9 +1,10 @@
 -- Each number has one spelling: a field writes n just where n is below 100000 and the field is n's decimal digits.
-use Rattle.std.proofs.Common.{◌≡◌, ℕ, ◌^◌, ◌<◌, ◌≤◌, Bool, true, false, cond, length, get_or, Some, None, decimal, sym, refl, ap, ◌∙◌, ⊎_elim, arith, rules}
+use Rattle.std.proofs.Common.{◌≡◌, ℕ, ◌^◌, ◌<◌, ◌≤◌, true, length, get_or, Some, None, decimal, sym, ap, ◌∙◌, ⊎_elim, arith, rules}
 use Rattle.std.proofs.lemmas.Fmt.{decimal_digit, decimal_nonempty, decimal-digits_value, digits_decimal, first_decimal, length-decimal-le, digits_value-decimal}
 use Rattle.std.proofs.lemmas.Str.Parse.{IsNumeralModel, numerals_by_fold, digits_value_short}
 use Rattle.std.proofs.lemmas.Bool.{cases_lt, cond-true}
 use Rattle.std.proofs.lemmas.Bool.Decides.{nat_tests}
+use Rattle.std.proofs.lemmas.Option.{cond_some}
 use Rattle.std.specs.Str.{all_ascii_digits}
 use Rattle.shift_text.specs.Fields.{Field, is_number, number, value_on}
 
@@ -40,10 +41,6 @@ written ds n h e =
     let small : value_on 0 ds < 100000 = omega (arith, short) in
     (omega arith, sym (decimal-digits_value own ds p.0 p.1 p.3 (omega arith)) ∙ ap decimal e)
 
-chosen : (b : Bool) (v n : ℕ) → cond b (Some v) None ≡ Some n → (b ≡ true) × (v ≡ n)
-chosen true v n e = (refl, cc)
-chosen false v n e = absurd (grind arith)
-
 pub decimal_number : (ds : Field) (n : ℕ) → number ds ≡ Some n → (n < 100000) × (ds ≡ decimal n)
 unfolding number
-decimal_number ds n e = let c = chosen (is_number ds) (value_on 0 ds) n e in written ds n c.0 c.1
+decimal_number ds n e = let c = cond_some (is_number ds) (value_on 0 ds) n e in written ds n c.0 c.1

@@ -169,3 +169,6 @@ module _ (bs rest : List ℕ) (v : ℕ) (longest : Longest bs v rest) where
 
   pub longest_wrong : (v ≡ 100000 → ⊥) → 1 ≤ length rest → (get_or rest 0 0 ≡ 9 → ⊥) → first number (fields bs) ≡ None
   longest_wrong ne = begins_wrong bs rest v (begins ne)
+
+-- a line's first field, by the longest number that it begins with and the bytes after it
+pub ruleset by_longest = (longest_none, longest_last, longest_tab, longest_wrong)

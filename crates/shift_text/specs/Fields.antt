@@ -55,3 +55,8 @@ first read (f ∷ fs) = beside (read f) fs
 abbrev pub Taken : {A B : Type 0} → (B → List ℕ) → Option (A × List Field) → Option (A × Option B) → Type 0
 Taken bytes read None = read ≡ None
 Taken bytes read (Some p) = read ≡ Some (p.0, left (option_map bytes p.1))
+
+-- what is left of a line, and the number of the first of these fields
+pub record Unread : Type 0 where
+  pub fields : List Field
+  pub next : ℕ

@@ -1,10 +1,10 @@
 -- What a line of text says: the call that it writes, or the first field that is missing, wrong or too many.
-use Rattle.std.specs.Prelude.{ℕ, cond, List, [], ◌∷◌, length, take, Some, None, Ok, Err, Option, Result, ◌==◌, nat_le}
+use Rattle.std.specs.Prelude.{◌≡◌, ℕ, ◌+◌, cond, List, [], ◌∷◌, length, take, Some, None, Ok, Err, Option, Result, ◌==◌, nat_le}
 use Rattle.calls.specs.declared.call.Call.{Call}
 use Rattle.calls.specs.declared.call.Call.TheVariants.{Book, Pass, Spoil, Withdraw}
 use Rattle.calls.specs.declared.refusal.Refusal.{Refusal}
 use Rattle.calls.specs.declared.refusal.Refusal.TheVariants.{Malformed}
-use Rattle.shift_text.specs.Fields.{Field, fields, first, number, one_byte}
+use Rattle.shift_text.specs.Fields.{Field, Unread, fields, first, number, one_byte}
 
 -- the line is malformed at field i
 abbrev pub malformed : {X : Type 0} → ℕ → Result X Refusal
@@ -14,6 +14,15 @@ malformed i = Err (Malformed i)
 abbrev pub at_field : {A X : Type 0} → ℕ → Option (A × List Field) → (A → List Field → Result X Refusal) → Result X Refusal
 at_field i None next = malformed i
 at_field i (Some p) next = next p.0 p.1
+
+-- The answer r is what `read` makes of the first of the fields that are left, and those behind it are left then; or it is malformed, and nothing moves.
+abbrev pub Took : {A : Type 0} → (Field → Option A) → Unread → Unread → Result A Refusal → Type 0
+Took read before after (Ok a) = (first read before.fields ≡ Some (a, after.fields)) × (after.next ≡ before.next + 1)
+Took read before after (Err refusal) = (first read before.fields ≡ None) × (refusal ≡ Malformed before.next) × (after ≡ before)
+
+-- nothing of the line is read
+abbrev pub whole_line : List ℕ → Unread
+whole_line line = record { fields = fields line; next = 1 }
 
 -- the line has no field i
 abbrev pub ended : {X : Type 0} → ℕ → List Field → X → Result X Refusal

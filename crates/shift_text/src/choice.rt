@@ -1,4 +1,7 @@
 // What the first line of a shift chooses.
+ghost use Rattle.std.specs.Prelude.{◌≡◌};
+
+use inspections::Inspection;
 
 // The fault rule of a shift.
 #[derive(Clone, Copy, PartialEq, Eq, Debug)]
@@ -18,6 +21,21 @@ pub enum InspectionKind {
     AtEnd,
     // A spoiled run is given up in the quarter of its first fault.
     AtFault,
+}
+
+impl InspectionKind {
+    ghost use Rattle.shift_text.specs.Openings.{kind};
+
+    // The inspection that the letter names, if one does. No `TryFrom`, since there is nothing to say of a letter that names none.
+    pub(crate) fn of_letter(letter: char) -> Option<InspectionKind>
+        ensures { result ≡ kind letter }
+    {
+        match letter {
+            <inspections::AtEnd as Inspection>::LETTER => Some(InspectionKind::AtEnd),
+            <inspections::AtFault as Inspection>::LETTER => Some(InspectionKind::AtFault),
+            _ => None,
+        }
+    }
 }
 
 // How a shift is opened.

@@ -7,13 +7,15 @@ mod fields;
 mod line_buffer;
 mod lines;
 mod numbers;
+mod one_field;
 mod opening;
 mod reply;
 mod reply_line;
 
 pub use choice::{FaultRule, InspectionKind, Opening};
+pub use fields::LONGEST;
 pub use line_buffer::LineBuffer;
-pub use lines::{LONGEST, read_call};
+pub use lines::read_call;
 pub use numbers::{NO_NUMBER, number};
 pub use opening::read_opening;
 pub use reply::Reply;

@@ -132,41 +132,37 @@ fn long_lines(rt: HostRuntime) {
 fn reply_lines(rt: HostRuntime) -> Result<(), Fail> {
     let heap = rt.alloc();
     for (number, reply, text) in [
-        (1, Reply::Opened { size: 512 }, "1\t0\t512\n"),
+        (1, Ok(Reply::Opened { size: 512 }), "1\t0\t512\n"),
         (
             2,
-            Reply::Answered(Answer::Taken { worst: 10 }),
+            Ok(Reply::Answered(Answer::Taken { worst: 10 })),
             "2\t0\t10\n",
         ),
-        (3, Reply::Answered(Answer::Withdrawn), "3\t0\t0\n"),
+        (3, Ok(Reply::Answered(Answer::Withdrawn)), "3\t0\t0\n"),
         (
             4,
-            Reply::Answered(Answer::Quarter(Event::Idle)),
+            Ok(Reply::Answered(Answer::Quarter(Event::Idle))),
             "4\t0\tI0\n",
         ),
         (
             5,
-            Reply::Answered(Answer::Quarter(Event::Running { ticket: 11 })),
+            Ok(Reply::Answered(Answer::Quarter(Event::Running { ticket: 11 }))),
             "5\t0\tR11\n",
         ),
         (
             6,
-            Reply::Answered(Answer::Quarter(Event::Again { ticket: 11 })),
+            Ok(Reply::Answered(Answer::Quarter(Event::Again { ticket: 11 }))),
             "6\t0\tA11\n",
         ),
         (
             7,
-            Reply::Answered(Answer::Quarter(Event::Finished { ticket: 9_999 })),
+            Ok(Reply::Answered(Answer::Quarter(Event::Finished { ticket: 9_999 }))),
             "7\t0\tF9999\n",
         ),
-        (
-            8,
-            Reply::Answered(Answer::Refused(Refusal::Late { ticket: 13 })),
-            "8\t7\t13\n",
-        ),
+        (8, Err(Refusal::Late { ticket: 13 }), "8\t7\t13\n"),
         (
             99_999,
-            Reply::Answered(Answer::Refused(Refusal::Malformed { field: 1 })),
+            Err(Refusal::Malformed { field: 1 }),
             "99999\t15\t1\n",
         ),
     ] {

@@ -2,5 +2,5 @@ use Rattle.std.proofs.Common.{rules}
 use Rattle.lists.proofs.edits.write_at.Goals as goal
 use Rattle.std.proofs.lemmas.List.{drop-set-lt, take_more_set}
 
-pub returns-then-index-cells : goal.returns-then-index-cells
-returns-then-index-cells g c = search (rules, take_more_set, drop-set-lt)
+pub returns : goal.returns
+returns g c = search (rules, take_more_set, drop-set-lt)

@@ -1,6 +1,5 @@
-use Rattle.std.proofs.Common.{◌≡◌, length}
 use Rattle.search.proofs.powers.fill.Given as goal
 use Rattle.search.specs.Powers.{PowersTo}
 
 abbrev pub invariant-loop-power : goal.invariant-loop-power
-invariant-loop-power g l = (length l.rows ≡ 3584) × PowersTo (g.R.Rule.model l.rule) l.power l.rows
+invariant-loop-power g l = PowersTo (g.R.Rule.model l.rule) l.power l.rows

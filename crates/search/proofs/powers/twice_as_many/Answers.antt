@@ -1,20 +1,19 @@
-use Rattle.std.proofs.Common.{arith}
-use Rattle.search.proofs.Doubling.{doubled_all, doubled_more, half_inside, twice_leads}
+use Rattle.std.proofs.Common.{◌<◌, ◌≢◌, length, arith, below_more, get_or-set_other, get_or-set_same}
+use Rattle.std.proofs.lemmas.List.{get_or-take}
+use Rattle.search.proofs.Doubling.{half_inside, twice_leads}
 use Rattle.search.proofs.powers.twice_as_many.Goals as goal
 
-pub bounds-rows-before-in-loop-state : goal.bounds-rows-before-in-loop-state
-bounds-rows-before-in-loop-state g c =
-    let m = g.R.Rule.model c.args.rule.now in
+pub bounds-before-half : goal.bounds-before-half
+bounds-before-half g c =
     let laws = g.met.R.Rule.lawful c.args.rule.now in
-    let inside = half_inside m laws c.loop-state.rows c.args.power (omega arith) c.loop-state.invariant.1 c.loop-state.state (omega arith) in
-    let small = laws.small in omega arith
+    let inside = half_inside (g.R.Rule.model c.args.rule.now) laws c.args.before.now c.args.power c.requires.power c.requires.before c.loop-state.state (omega arith) in
+    let same = get_or-take c.size.result c.args.before.now c.loop-state.state 0 (omega arith) in
+    omega (arith, inside, same, laws.small)
 
 pub loop-state-preserved : goal.loop-state-preserved
 loop-state-preserved g c =
-    let m = g.R.Rule.model c.args.rule.now in
     let laws = g.met.R.Rule.lawful c.args.rule.now in
-    doubled_more m laws c.args.power c.loop-state.state _ c.loop-state.rows (omega arith) (omega arith)
-    (twice_leads m laws c.loop-state.rows c.args.power (omega arith) c.loop-state.invariant.1 c.loop-state.state (omega arith)) c.loop-state.invariant
-
-pub returns : goal.returns
-returns g c = doubled_all (g.R.Rule.model c.args.rule.now) c.args.power c.loop-state.state c.loop-state.rows (omega arith) c.loop-state.invariant
+    let leads = twice_leads (g.R.Rule.model c.args.rule.now) laws c.args.before.now c.args.power c.requires.power c.requires.before c.loop-state.state (omega arith) in
+    below_more _ _
+    (λ k h. let ne : k ≢ c.loop-state.state = omega arith in rw get_or-set_other (c.loop-state.invariant k h))
+    (let lt : c.loop-state.state < length c.loop-state.row = omega (arith, laws.small) in rw (get_or-set_same, get_or-take c.size.result c.args.before.now c.loop-state.state 0 (omega arith)) leads)

@@ -1,8 +1,8 @@
+use Rattle.board.proofs.Seeing.{ended_spoiled, spoil_seen}
 use Rattle.board.proofs.opening.Board.spoil.Goals as goal
-use Rattle.board.proofs.Seeing.{spoil_seen}
 
-pub returns : goal.returns
-returns g c =
-    let steps = c.spoiled_quarter.ensures in
-    let laws = g.met.R.Rule.lawful c.args.self.now.rule in
-    record { quarter = steps.quarter; seen = spoil_seen (g.R.Rule.model c.args.self.now.rule) laws _ _ steps.quarter; kept = steps.kept }
+pub returns-clause-seen : goal.returns-clause-seen
+returns-clause-seen g c =
+    let model = g.R.Rule.model c.args.self.now.rule in
+    spoil_seen model (g.met.R.Rule.lawful c.args.self.now.rule) _ _
+    (ended_spoiled model _ _ _ _ c.after_spoiled-state.ensures c.ok_or.ensures.value c.end_in.ensures.quarter)

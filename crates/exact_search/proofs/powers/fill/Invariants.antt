@@ -1,6 +1,0 @@
-use Rattle.std.proofs.Common.{◌≡◌, length}
-use Rattle.exact_search.proofs.powers.fill.Given as goal
-use Rattle.exact_search.specs.Powers.{PowersTo}
-
-abbrev pub invariant-loop-power : goal.invariant-loop-power
-invariant-loop-power g l = (length l.rows ≡ 3584) × PowersTo (g.R.Rule.model l.rule) l.power l.rows

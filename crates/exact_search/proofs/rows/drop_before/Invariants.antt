@@ -1,5 +1,0 @@
-use Rattle.exact_search.proofs.Dropping.{Dropped}
-use Rattle.exact_search.proofs.rows.drop_before.Given as goal
-
-abbrev pub invariant-loop-latest : goal.invariant-loop-latest
-invariant-loop-latest l = Dropped l.time l.latest-index l.initial.row l.row

@@ -1,6 +1,0 @@
-use Rattle.std.proofs.Common.{ℕ, ◌<◌, ◌≤◌}
-use Rattle.exact_search.proofs.rows.last_pending.Given as goal
-use Rattle.exact_search.specs.Rows.{Pending}
-
-abbrev pub invariant-loop-state : goal.invariant-loop-state
-invariant-loop-state l = (s : ℕ) → l.state ≤ s → s < l.states → Pending l.row l.done s → ⊥

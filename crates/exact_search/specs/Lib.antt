@@ -1,9 +1,0 @@
-pub mod Rows
-pub mod Powers
-pub mod Hits
-pub mod Chains
-pub mod Fronts
-pub mod Jobs
-pub mod Sequences
-pub mod Fit
-pub mod Answers

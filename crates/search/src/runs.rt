@@ -1,0 +1,58 @@
+// The runs of one job: those that start as a row has it, and again those after the runs that were given up.
+ghost use Rattle.std.specs.Prelude.{◌≡◌, ◌+◌, ◌^◌, ◌<◌, ◌≤◌, MatchBool};
+ghost use Rattle.search.specs.Chains.{Passes, Searched};
+
+use crate::hits::Underway;
+use crate::judge::Judge;
+use crate::rows::{Row, Sweep, Way, clear, keep, next_pending};
+use inspections::Inspection;
+use rules::Rule;
+
+// What the runs of a job are to keep: how many quarters each is long, and the quarter that it is due at.
+#[derive(Clone, Copy)]
+pub(crate) struct Task {
+    pub quarters: u32,
+    pub due: u32,
+    ghost short: { quarters < 128 },
+    ghost early: { due + 129 < 2 ^ 32 },
+}
+
+impl<R: Rule, I: Inspection> Judge<'_, R, I> {
+    // Whether the job can be late, whose first runs start as `starts` has it. If it cannot, `starts` gains the starts of all its runs and `finish` how it can end.
+    // `done` is used for the starts that were gone through.
+    pub(crate) fn runs(
+        &self,
+        task: Task,
+        starts: &mut Row,
+        done: &mut Row,
+        finish: &mut Row,
+    ) -> bool
+        ensures { let m = R.Rule.model self.now.clean.rule.now in let V = I.Inspection.verdict self.now.inspection.now in MatchBool result (Passes m V task.quarters task.due starts.old) (Searched m V task.quarters task.due starts.old starts.new finish.old finish.new) }
+    {
+        clear(done);
+        let states = self.clean.rule.size() as usize;
+        let mut sweep = Sweep {
+            state: states,
+            way: Way::Down,
+        };
+        while let Some(next) = next_pending(starts, done, states, sweep) {
+            sweep = next;
+            let latest = starts[sweep.state];
+            let start = latest - 1;
+            if start as u64 + task.quarters as u64 > task.due as u64 {
+                return true;
+            }
+            done[sweep.state] = latest;
+            let state = sweep.state as u32;
+            let end = self.clean.after_cleans(state, task.quarters);
+            keep(finish, end, start + task.quarters);
+            let run = Underway {
+                quarters: task.quarters,
+                gone: 0,
+                begun: start,
+            };
+            self.keep_hits(run, state, starts);
+        }
+        false
+    }
+}
