@@ -1,8 +1,9 @@
 -- What a quarter makes of the faults that a board has seen.
-use Rattle.std.proofs.Common.{◌≡◌, ℕ, ◌+◌, ◌<◌, ltb, List, Some, None, Ok, Err, Option, Result, unwrap_or, sym, refl, ap, ◌∙◌, subst₂, arith}
+use Rattle.std.proofs.Common.{◌≡◌, ℕ, ◌<◌, ltb, List, Some, None, Ok, Err, Option, Result, unwrap_or, sym, refl, ap, ◌∙◌, subst, arith}
 use Rattle.board.proofs.Leading.{allowed_leads, leads_allowed, leads_clean, leads_spoiled, leads_stay}
 use Rattle.board.specs.Faults.{Seen}
-use Rattle.board.specs.Quarters.{Moment, PassSeen, Quarter, SpoilSeen, SpoiledAfter, before_end, ended_in, one_more, passed, spoiled, spoiled_to}
+use Rattle.board.specs.declared.moment.Moment.{Moment}
+use Rattle.board.specs.Quarters.{PassSeen, Quarter, SpoilSeen, SpoiledAfter, at_next, before_end, ended_in, one_more, passed, spoiled, spoiled_to}
 use Rattle.calls.specs.declared.answer.Event.{Event}
 use Rattle.calls.specs.declared.answer.Event.TheVariants.{Idle}
 use Rattle.calls.specs.declared.refusal.Refusal.{Refusal}
@@ -27,7 +28,7 @@ ended_spoiled m w q o r by is e = e ∙ ap (before_end w) (ap (ended_in w) is �
 
 module _ (m : Model) (laws : Laws m) where
   -- the state of a board that has seen faults is a state of the rule
-  inside : (w : Moment) (f : List ℕ) → 0 < m.size → Seen m f w.clock w.state → w.state < m.size
+  inside : (w : Moment) (f : List ℕ) → 0 < m.size → Seen m f w → w.state < m.size
   inside w f some seen = leads_stay m laws m.opening 0 w.clock w.state f (laws.opens some) seen
 
   before : (w : Moment) (q : Quarter) → w.clock < 4096 → before_end w q ≡ q
@@ -38,13 +39,12 @@ module _ (m : Model) (laws : Laws m) where
       let is = e ∙ before w _ room in
       let state : w.state < m.size = inside w f some seen in
       let clean = cond-true (ltb w.state m.size) (Some (m.clean w.state)) None (lt-ltb w.state m.size state) in
-      let clock : q.after.clock ≡ w.clock + 1 = ap (λ (x : Quarter). x.after.clock) is in
-      let next : q.after.state ≡ m.clean w.state = ap (λ (x : Quarter). x.after.state) is ∙ ap (λ o. unwrap_or o w.state) clean in
+      let next : q.after ≡ at_next w (m.clean w.state) = ap (λ (x : Quarter). x.after) is ∙ ap (λ o. at_next w (unwrap_or o w.state)) clean in
       let led = leads_clean m m.opening 0 w.clock w.state f seen in
-      (ap (λ (x : Quarter). x.answer) is, clock, subst₂ (Seen m f) (sym clock) (sym next) led)
+      (ap (λ (x : Quarter). x.answer) is, ap (λ (v : Moment). v.clock) next, subst (Seen m f) (sym next) led)
 
   -- by what the rule answers
-  spoiled_by : (w : Moment) (q : Quarter) (f : List ℕ) (o : Option ℕ) → m.spoiled w.state ≡ o → q ≡ spoiled_to w o → Seen m f w.clock w.state → w.clock < 4096 →
+  spoiled_by : (w : Moment) (q : Quarter) (f : List ℕ) (o : Option ℕ) → m.spoiled w.state ≡ o → q ≡ spoiled_to w o → Seen m f w → w.clock < 4096 →
       SpoiledAfter m w q f
   spoiled_by w q f None permitted is seen room =
       let answer : q.answer ≡ Err FaultForbidden = ap (λ (x : Quarter). x.answer) is in
@@ -58,11 +58,10 @@ module _ (m : Model) (laws : Laws m) where
   spoiled_by w q f (Some t) permitted is seen room =
       let answer : q.answer ≡ Ok Idle = ap (λ (x : Quarter). x.answer) is in
       let yes : Allowed m m.opening 0 (one_more f w) = leads_allowed m m.opening 0 w.clock w.state t f seen room permitted in
-      let clock : q.after.clock ≡ w.clock + 1 = ap (λ (x : Quarter). x.after.clock) is in
-      let next : q.after.state ≡ t = ap (λ (x : Quarter). x.after.state) is in
+      let next : q.after ≡ at_next w t = ap (λ (x : Quarter). x.after) is in
       let led = leads_spoiled m m.opening 0 w.clock w.state t f seen permitted in record {
         allowed = (λ e. yes, λ a. answer);
-        seen = λ e. (clock, subst₂ (Seen m (one_more f w)) (sym clock) (sym next) led);
+        seen = λ e. (ap (λ (v : Moment). v.clock) next, subst (Seen m (one_more f w)) (sym next) led);
         forbidden = (λ e. absurd (err_ok (sym e ∙ answer)), λ n. absurd (n yes));
         still = λ e. absurd (err_ok (sym e ∙ answer));
       }

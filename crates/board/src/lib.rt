@@ -2,7 +2,9 @@
 
 #![tactic(auto)]
 
+mod moment;
 mod opening;
 mod quarters;
 
+pub use moment::Moment;
 pub use opening::Board;

@@ -2,7 +2,7 @@
 ghost use Rattle.inspections.specs.Verdict.{at_end};
 ghost use Rattle.std.proofs.Common.{rules};
 
-use crate::inspection::Inspection;
+use crate::inspection::{Inspection, in_run};
 
 // The run goes on to its end, and is then found spoiled.
 #[derive(Clone, Copy, PartialEq, Eq, Debug)]
@@ -18,10 +18,6 @@ impl Inspection for AtEnd {
     ghost bounded = { Prim.search rules };
 
     fn given_up_after(&self, length: u32, first_fault: u32) -> u32 {
-        if 1 <= first_fault && first_fault <= length {
-            length
-        } else {
-            0
-        }
+        in_run(length, first_fault, length)
     }
 }

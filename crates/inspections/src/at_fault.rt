@@ -2,7 +2,7 @@
 ghost use Rattle.inspections.specs.Verdict.{at_fault};
 ghost use Rattle.std.proofs.Common.{rules};
 
-use crate::inspection::Inspection;
+use crate::inspection::{Inspection, in_run};
 
 // The run is given up with its first spoiled quarter.
 #[derive(Clone, Copy, PartialEq, Eq, Debug)]
@@ -18,10 +18,6 @@ impl Inspection for AtFault {
     ghost bounded = { Prim.search rules };
 
     fn given_up_after(&self, length: u32, first_fault: u32) -> u32 {
-        if 1 <= first_fault && first_fault <= length {
-            first_fault
-        } else {
-            0
-        }
+        in_run(length, first_fault, first_fault)
     }
 }

@@ -1,6 +1,17 @@
 // What an inspection answers, and the bounds that it keeps.
 ghost use Rattle.std.specs.Prelude.{◌≡◌, ℕ};
-ghost use Rattle.inspections.specs.Verdict.{Verdict, Bounded};
+ghost use Rattle.inspections.specs.Verdict.{Verdict, Bounded, in_run};
+
+// The answer where the quarter is in a run of this length, and 0 where it is not.
+pub fn in_run(length: u32, quarter: u32, answer: u32) -> u32
+    ensures { result ≡ in_run length quarter answer }
+{
+    if 1 <= quarter && quarter <= length {
+        answer
+    } else {
+        0
+    }
+}
 
 // An inspection: when a run with a fault is given up.
 pub trait Inspection {

@@ -8,7 +8,7 @@ mod inspection;
 
 pub use at_end::AtEnd;
 pub use at_fault::AtFault;
-pub use inspection::Inspection;
+pub use inspection::{Inspection, in_run};
 
 #[cfg(test)]
 mod tests;

@@ -8,7 +8,8 @@ mod edits;
 mod reads;
 
 // The first `len` cells hold the elements; the cells beyond belong to the caller.
-// A rule of the project keeps the length beside a slice: the memory is the caller's, and nothing is allocated.
+// A rule of the project keeps the length beside a slice: the memory is the caller's, and nothing is allocated. That the length is within
+// the cells is no ghost field, since a slice beside one cannot be lent to a function that writes: `append` keeps it.
 #[derive(Drop)]
 pub struct List<'a, T> {
     cells: &'a mut [T],

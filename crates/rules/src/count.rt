@@ -42,11 +42,7 @@ impl Rule for Count {
     }
 
     fn after_clean(&self, state: u32) -> Option<u32> {
-        if state < self.size() {
-            Some(state)
-        } else {
-            None
-        }
+        (state < self.size()).then_some(state)
     }
 
     fn after_spoiled(&self, state: u32) -> Option<u32> {

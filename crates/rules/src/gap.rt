@@ -53,10 +53,6 @@ impl Rule for Gap {
 
     fn after_spoiled(&self, state: u32) -> Option<u32> {
         let size = self.size();
-        if state < size && state + 1 == size {
-            Some(0)
-        } else {
-            None
-        }
+        (state < size && state + 1 == size).then_some(0)
     }
 }

@@ -10,7 +10,7 @@ pub trait Rule {
     fn size(&self) -> u32
         ensures { result ≡ (model self.now).size };
 
-    // The state before the first quarter, or 0 where the rule has no state.
+    // The state before the first quarter, or 0, a number fixed likewise, where the rule has no state.
     fn opening(&self) -> u32
         ensures { result ≡ (model self.now).opening };
 

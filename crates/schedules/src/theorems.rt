@@ -11,6 +11,7 @@ pub fn completion_is_least()
 {}
 
 // Quarter by quarter and run by run, every job finishes in the same quarter.
+#[tactic(auto, using(crate::proofs::Bridge::bridge))]
 pub fn grains_agree()
     ensures { Bridge }
 {}

@@ -1,8 +1,10 @@
 -- From the jobs that wait to all jobs of a board.
 use borrow.Rule.Slice.PartMut.{put_mid}
-use Rattle.std.proofs.Common.{◌≡◌, ℕ, zero, suc, ◌-◌, ◌<◌, ◌≤◌, List, [], ◌∷◌, ◌++◌, length, get_or, drop, set, Some, None, Option, refl, ap, ◌∙◌, append-nil, arith}
+use Rattle.std.proofs.Common.{◌≡◌, ℕ, zero, suc, ◌-◌, ◌<◌, ◌≤◌, List, [], ◌∷◌, ◌++◌, length, get_or, drop, set, Some, None, Ok, Err, Result, Option, refl, ap, ◌∙◌, append-nil, arith}
 use mathlib.Core.Path.{subst⁻¹}
 use Rattle.calls.specs.declared.call.Job.{Job}
+use Rattle.calls.specs.declared.refusal.Refusal.{Refusal}
+use Rattle.calls.specs.declared.refusal.Refusal.TheVariants.{Late}
 use Rattle.inspections.specs.Verdict.{Verdict}
 use Rattle.rules.specs.Model.{Model}
 use Rattle.schedules.specs.Foreseen.{free, slots}
@@ -33,10 +35,12 @@ module _ (m : Model) (s0 c0 : ℕ) where
     judged_same n few judged = record { latest = λ k h. latest_same (F k) (G k) _ (same k (omega arith)) (judged.latest k h); on_time = judged.on_time; rest = judged.rest }
 
     -- the same finishes, in other words
-    pub judges_same : (r : Option ℕ) → Judges m s0 c0 F js old new r → Judges m s0 c0 G js old new r
-    judges_same None judged = judged_same (length js) (omega arith) judged
-    judges_same (Some t) (n, late) = (
+    pub judges_same : (r : Result (Unit {0}) Refusal) → Judges m s0 c0 F js old new r → Judges m s0 c0 G js old new r
+    judges_same (Ok u) judged = judged_same (length js) (omega arith) judged
+    judges_same (Err e) (t, n, is, late) = (
+      t,
       n,
+      is,
       record {
         within = late.within;
         ticket = late.ticket;
@@ -63,17 +67,21 @@ module _ (m : Model) (s0 c0 : ℕ) where
         rest zero h = absurd (omega arith)
         rest (suc k) h = after k ∙ judged.rest k (omega arith) ∙ before k
 
-    pub judges_behind : (o : Option ℕ) → Judges m s0 c0 (λ k. G (suc k)) js tail tail' o → Judges m s0 c0 G (j ∷ js) old new o
-    judges_behind None judged = judged_behind (length js) judged
-    judges_behind (Some t) (n, late) = (
+    pub judges_behind : (o : Result (Unit {0}) Refusal) → Judges m s0 c0 (λ k. G (suc k)) js tail tail' o → Judges m s0 c0 G (j ∷ js) old new o
+    judges_behind (Ok u) judged = judged_behind (length js) judged
+    judges_behind (Err e) (t, n, is, late) = (
+      t,
       suc n,
+      is,
       record { within = omega (arith, late.within); ticket = late.ticket; late = late.late; before = judged_behind n late.before },
     )
 
   -- the first job can be late
-  pub judges_first : (G : ℕ → List ℕ → ℕ) (j : Job) (js : List Job) (old : List ℕ) → CanPass m s0 c0 (G 0) j.due → Judges m s0 c0 G (j ∷ js) old old (Some j.ticket)
+  pub judges_first : (G : ℕ → List ℕ → ℕ) (j : Job) (js : List Job) (old : List ℕ) → CanPass m s0 c0 (G 0) j.due → Judges m s0 c0 G (j ∷ js) old old (Err (Late j.ticket))
   judges_first G j js old late = (
+    j.ticket,
     0,
+    refl,
     record {
       within = omega arith;
       ticket = refl;
@@ -83,7 +91,7 @@ module _ (m : Model) (s0 c0 : ℕ) where
   )
 
 -- the machine's run by another name
-pub judges_machine : (m : Model) (V : Verdict) (clock state : ℕ) (machine : Option Run) (run : Run) (waiting : List Job) (old new : List ℕ) (o : Option ℕ) → machine ≡ Some run →
+pub judges_machine : (m : Model) (V : Verdict) (clock state : ℕ) (machine : Option Run) (run : Run) (waiting : List Job) (old new : List ℕ) (o : Result (Unit {0}) Refusal) → machine ≡ Some run →
     JudgesBoard m V (record { clock = clock; state = state; machine = Some run; waiting = waiting }) old new o →
     JudgesBoard m V (record { clock = clock; state = state; machine = machine; waiting = waiting }) old new o
 judges_machine m V clock state machine run waiting old new o is judged =
@@ -94,7 +102,7 @@ put_behind : (x n : ℕ) (xs ys : List ℕ) → n ≡ length xs → put_mid 1 n 
 put_behind x n xs ys all = ap (λ l. x ∷ l) (ap (λ l. ys ++ l) (drop_all n xs (omega arith)) ∙ append-nil ys)
 
 -- the run on the machine, whose latest finish is r, and what was judged of the jobs behind it
-pub judges_run : (m : Model) (V : Verdict) (clock state : ℕ) (run : Run) (waiting : List Job) (old tail ys : List ℕ) (r : ℕ) (o : Option ℕ) → 0 < length old → tail ≡ drop 1 (set old 0 r) →
+pub judges_run : (m : Model) (V : Verdict) (clock state : ℕ) (run : Run) (waiting : List Job) (old tail ys : List ℕ) (r : ℕ) (o : Result (Unit {0}) Refusal) → 0 < length old → tail ≡ drop 1 (set old 0 r) →
     Latest m state clock (free V clock (Some run)) r → r ≤ run.job.due → Judges m state clock (finish_of V (free V clock (Some run)) waiting) waiting tail ys o →
     JudgesBoard m V (record { clock = clock; state = state; machine = Some run; waiting = waiting }) old (put_mid 1 (length (set old 0 r) - 1) (set old 0 r) ys) o
 judges_run m V clock state run waiting [] tail ys r o room is latest by judged = absurd (omega arith)
@@ -107,7 +115,7 @@ judges_run m V clock state run waiting (x ∷ old) tail ys r o room is latest by
     w = record { clock = clock; state = state; machine = Some run; waiting = waiting }
 
 -- nothing is on the machine
-pub judges_idle : (m : Model) (V : Verdict) (clock state : ℕ) (machine : Option Run) (waiting : List Job) (old new : List ℕ) (o : Option ℕ) → machine ≡ None →
+pub judges_idle : (m : Model) (V : Verdict) (clock state : ℕ) (machine : Option Run) (waiting : List Job) (old new : List ℕ) (o : Result (Unit {0}) Refusal) → machine ≡ None →
     Judges m state clock (finish_of V (λ h. clock) waiting) waiting old new o → JudgesBoard m V (record { clock = clock; state = state; machine = machine; waiting = waiting }) old new o
 judges_idle m V clock state machine waiting old new o is judged =
     subst⁻¹ (λ x. JudgesBoard m V (record { clock = clock; state = state; machine = x; waiting = waiting }) old new o) is

@@ -1,5 +1,6 @@
 -- What was judged of a board by its runs holds of it quarter by quarter.
-use Rattle.std.proofs.Common.{◌≡◌, ℕ, zero, suc, ◌<◌, ◌≤◌, List, [], ◌∷◌, length, get_or, sym, subst, inl, inr, arith}
+use Rattle.std.proofs.Common.{◌≡◌, ℕ, zero, suc, ◌<◌, ◌≤◌, List, [], ◌∷◌, length, get_or, Ok, Err, Result, refl, ap, sym, subst, inl, inr, arith}
+use Rattle.calls.specs.declared.refusal.Refusal.{Refusal}
 use Rattle.inspections.specs.Verdict.{Bounded, Verdict}
 use Rattle.rules.specs.Faults.{Allowed}
 use Rattle.rules.specs.Model.{Model}
@@ -12,11 +13,11 @@ use Rattle.schedules.specs.Plans.{CanBeLate, WorstFinish}
 use Rattle.schedules.specs.Ready.{Ready}
 use Rattle.schedules.specs.Walk.{Finish, Gives}
 use Rattle.schedules.specs.World.{Distinct, World, board, nobody}
-use Rattle.search.specs.Answers.{AllKept, Kept, LateFrom}
+use Rattle.search.specs.Answers.{AllKept, Found, Kept, LateFrom}
 use Rattle.search.specs.Fit.{Fit}
 use Rattle.search.specs.Fronts.{CanPass, Latest}
 use Rattle.search.specs.Jobs.{Searchable}
-use Rattle.search.specs.Sequences.{Judged, LateAt, board_finish}
+use Rattle.search.specs.Sequences.{Judged, JudgesBoard, LateAt, board_finish}
 use Rattle.std.proofs.ByRecursion.{All-weaker}
 
 -- the first element of which P holds, by its place
@@ -62,13 +63,18 @@ module _ (m : Model) (V : Verdict) (bounded : Bounded V) (w : World) (fit : Fit 
     rest = judged.rest;
   }
 
-  pub all_kept : (old new : List ℕ) → Judged m w.state w.clock (board_finish V w) (board w) (length (board w)) old new → AllKept m V w old new
+  all_kept : (old new : List ℕ) → Judged m w.state w.clock (board_finish V w) (board w) (length (board w)) old new → AllKept m V w old new
   all_kept old new judged =
       let kept = kept_from (length (board w)) old new (omega arith) judged in (none_any (CanBeLate m V w) nobody (board w) kept.on_time, kept)
 
-  pub late_found : (t n : ℕ) (old new : List ℕ) → LateAt m w.state w.clock (board_finish V w) (board w) old new t n → LateFrom m V w t old new
+  late_found : (t n : ℕ) (old new : List ℕ) → LateAt m w.state w.clock (board_finish V w) (board w) old new t n → LateFrom m V w t old new
   late_found t n old new late =
       let kept = kept_from n old new (omega (arith, late.within)) late.before in (
         first_at (CanBeLate m V w) (λ j. j.ticket ≡ t) nobody (board w) n late.within (late_from n late.within late.late) (sym late.ticket) kept.on_time,
         (n, late.within, sym late.ticket, kept),
       )
+
+  -- what was judged of the board is what is found
+  pub found : (old new : List ℕ) (r : Result (Unit {0}) Refusal) → JudgesBoard m V w old new r → Found m V w old new r
+  found old new (Ok u) judged = inl (refl, all_kept old new judged)
+  found old new (Err e) (t, n, is, late) = inr (t, ap Err is, late_found t n old new late)

@@ -3,11 +3,15 @@ use Rattle.std.proofs.Common.{◌≡◌, ℕ, ◌+◌, ◌-◌, ◌<◌, ◌≤�
 use Rattle.inspections.specs.Verdict.{Bounded, Verdict}
 use Rattle.rules.specs.Model.{Laws, Model, cleans}
 use Rattle.rules.proofs.Cleans.{cleans_stay}
+use Rattle.schedules.proofs.States.{above_cleans}
 use Rattle.search.proofs.Cleans.{cleans_keep}
-use Rattle.search.specs.RoundChains.{Covered, Chain, Ends, Goes, Late, Searched, Starts, Strike, again, cleanly, faultily, first, still}
+use Rattle.search.proofs.Ways.{covered_from, covered_grows}
+use Rattle.search.specs.Chains.{Starts}
+use Rattle.search.specs.Fronts.{Covered}
+use Rattle.search.specs.RoundChains.{Chain, Ends, Goes, Late, Searched, Strike, again, cleanly, faultily, first, still}
 use Rattle.search.specs.Hits.{Hit}
 use Rattle.search.specs.Rounds.{CleanOf, HitOf, LateOf, Ran}
-use Rattle.search.specs.Rows.{Covers, Empty, Grew, In}
+use Rattle.search.specs.Rows.{Empty, Grew, In}
 
 -- a start from which a clean run keeps the due quarter, and whose end is covered
 pub record Done (m : Model) (p due : ℕ) (finish : List ℕ) (s t : ℕ) : Type 0 where
@@ -22,15 +26,6 @@ pub record Going (m : Model) (V : Verdict) (p due k : ℕ) (row cur finish finis
   pub ended : (s f : ℕ) → In finish' s f → In finish s f ⊎ Ends m (Hit m V p 0 p) p (Starts m row) s f
   pub covered : (s t : ℕ) → Chain (Strike m V p) (Covered m row) s t → Done m p due finish' s t ⊎ Chain (Strike m V p) (Covered m cur) s t
   pub keeps : (s : ℕ) → get_or finish s 0 ≤ get_or finish' s 0
-
--- an entry that covers is an entry
-module _ (m : Model) (row : List ℕ) where
-  covered_from : (s' t' s t : ℕ) → Covers row s' t' → t ≤ t' → m.Freer s' s → s' < m.size → s < m.size → Covered m row s t
-  covered_from s' t' s t c l f i w = record { state = s'; time = get_or row s' 0 - 1; entry = omega arith; later = omega arith; freer = f; inside = i; within = w }
-
-covered_grows : (m : Model) (old new : List ℕ) → ((s : ℕ) → get_or old s 0 ≤ get_or new s 0) → (s t : ℕ) → Covered m old s t → Covered m new s t
-covered_grows m old new k s t a =
-    covered_from m new a.state a.time s t (omega (arith, a.entry, k a.state)) a.later a.freer a.inside a.within
 
 -- any faults on the way leave a state that is no freer than none would
 module _ (m : Model) (laws : Laws m) where
@@ -53,9 +48,9 @@ module _ (m : Model) (laws : Laws m) (V : Verdict) (bounded : Bounded V) (p due 
   covered_hit row zeros next g s t s' t' a h =
       let n = h.before in
       let q = V p (n + 1) - (n + 1) in
-      let fs = cleans_stay m laws n a.state a.inside in
-      let ts = cleans_stay m laws n s a.within in
-      let fr = cleans_keep m laws n a.state s a.inside a.within a.freer in
+      let fs = cleans_stay m laws n a.state a.freer.0 in
+      let ts = cleans_stay m laws n s a.freer.1 in
+      let fr = cleans_keep m laws n a.state s a.freer.0 a.freer.1 a.freer.2 in
       let sp = laws.spoiled_keeps (cleans m n a.state) (cleans m n s) h.spoiled fs ts fr h.permitted in
       let v = sp.0 in
       let vs = laws.spoiled_stays (cleans m n a.state) v fs sp.1 in
@@ -63,10 +58,12 @@ module _ (m : Model) (laws : Laws m) (V : Verdict) (bounded : Bounded V) (p due 
       let none_gone : n ≡ n - 0 = omega arith in
       let permitted = subst (λ k. m.spoiled (cleans m k a.state) ≡ Some v) none_gone sp.1 in
       let hit : Hit m V p 0 p a.state a.time (cleans m q v) (a.time + V p (n + 1)) = record { before = n; gone = omega arith; early = h.early; spoiled = v; permitted = permitted; state = refl; time = refl } in
-      let cov = g.covers (cleans m q v) (a.time + V p (n + 1)) (record { from = a.state; start = a.time; below = a.inside; starts = a.entry; hit = hit }) in
-      covered_from m next (cleans m q v) (a.time + V p (n + 1)) s' t' cov (omega (arith, h.time, a.later))
-      (laws.transitive (cleans m q v) (cleans m q h.spoiled) s' (cleans_stay m laws q v vs) (cleans_stay m laws q h.spoiled us) (goes_stays m laws us h.goes) (cleans_keep m laws q v h.spoiled vs us sp.2) (goes_freer m laws us h.goes))
-      (cleans_stay m laws q v vs) (goes_stays m laws us h.goes)
+      let cov = g.covers (cleans m q v) (a.time + V p (n + 1)) (record { from = a.state; start = a.time; below = a.freer.0; starts = a.entry; hit = hit }) in
+      covered_from m next (cleans m q v) (a.time + V p (n + 1)) s' t' cov (omega (arith, h.time, a.later)) (
+        cleans_stay m laws q v vs,
+        goes_stays m laws us h.goes,
+        laws.transitive (cleans m q v) (cleans m q h.spoiled) s' (cleans_stay m laws q v vs) (cleans_stay m laws q h.spoiled us) (goes_stays m laws us h.goes) (cleans_keep m laws q v h.spoiled vs us sp.2) (goes_freer m laws us h.goes),
+      )
 
   -- a chain from a row is a start of it, or a chain from the next
   chain_on : (row zeros next : List ℕ) → Grew (HitOf m V p m.size row) zeros next → (s t : ℕ) → Chain (Strike m V p) (Covered m row) s t → Covered m row s t ⊎ Chain (Strike m V p) (Covered m next) s t
@@ -75,18 +72,17 @@ module _ (m : Model) (laws : Laws m) (V : Verdict) (bounded : Bounded V) (p due 
       ⊎_elim (λ a. inr (first (covered_hit row zeros next g s t s' t' a h))) (λ c. inr (again c h)) (chain_on row zeros next g s t r)
 
   chain_none : (row : List ℕ) → ((s t : ℕ) → s < m.size → In row s t → ⊥) → (s t : ℕ) → Chain (Strike m V p) (Covered m row) s t → ⊥
-  chain_none row e s t (first a) = e a.state a.time a.inside a.entry
+  chain_none row e s t (first a) = e a.state a.time a.freer.0 a.entry
   chain_none row e s' t' (again {s} {t} r h) = chain_none row e s t r
 
   -- a start of the row is done with
   covered_done : (row finish finish' : List ℕ) → ((s t : ℕ) → s < m.size → In row s t → t + p ≤ due) → Grew (CleanOf m p m.size row) finish finish'
       → (s t : ℕ) → Covered m row s t → Done m p due finish' s t
   covered_done row finish finish' o g s t a = record {
-    on_time = omega (arith, o a.state a.time a.inside a.entry, a.later);
+    on_time = omega (arith, o a.state a.time a.freer.0 a.entry, a.later);
     end = covered_from m finish' (cleans m p a.state) (a.time + p) (cleans m p s) (t + p)
-        (g.covers (cleans m p a.state) (a.time + p) (record { from = a.state; start = a.time; below = a.inside; starts = a.entry; state = refl; time = refl }))
-        (omega (arith, a.later)) (cleans_keep m laws p a.state s a.inside a.within a.freer)
-        (cleans_stay m laws p a.state a.inside) (cleans_stay m laws p s a.within);
+        (g.covers (cleans m p a.state) (a.time + p) (record { from = a.state; start = a.time; below = a.freer.0; starts = a.entry; state = refl; time = refl }))
+        (omega (arith, a.later)) (above_cleans m laws p a.state s a.freer);
   }
 
   done_grows : (old new : List ℕ) → ((s : ℕ) → get_or old s 0 ≤ get_or new s 0) → (s t : ℕ) → Done m p due old s t → Done m p due new s t

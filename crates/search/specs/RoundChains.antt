@@ -2,6 +2,8 @@
 use Rattle.std.specs.Prelude.{◌≡◌, ℕ, zero, suc, ◌+◌, ◌-◌, ◌<◌, ◌≤◌, ◌⊎◌, List, Some, slice_index}
 use Rattle.inspections.specs.Verdict.{Verdict}
 use Rattle.rules.specs.Model.{Model, cleans}
+use Rattle.search.specs.Chains.{Starts}
+use Rattle.search.specs.Fronts.{Covered}
 use Rattle.search.specs.Hits.{Hit}
 use Rattle.search.specs.Rows.{In}
 
@@ -27,20 +29,6 @@ pub record Strike (m : Model) (V : Verdict) (p s t s' t' : ℕ) : Type 0 where
 pub data Chain (Fails : ℕ → ℕ → ℕ → ℕ → Type 0) (First : ℕ → ℕ → Type 0) : ℕ → ℕ → Type 0 where
   first : {s t : ℕ} → First s t → Chain Fails First s t
   again : {s t s' t' : ℕ} → Chain Fails First s t → Fails s t s' t' → Chain Fails First s' t'
-
--- the row starts a run in the state s at t
-abbrev pub Starts : Model → List ℕ → ℕ → ℕ → Type 0
-Starts m row s t = (s < m.size) × In row s t
-
--- the row has a time that is not earlier than t, for a state at least as free as s
-pub record Covered (m : Model) (row : List ℕ) (s t : ℕ) : Type 0 where
-  pub state : ℕ
-  pub time : ℕ
-  pub entry : In row state time
-  pub later : t ≤ time
-  pub freer : m.Freer state s
-  pub inside : state < m.size
-  pub within : s < m.size
 
 -- a chain of runs, the last of which is clean and ends at f in the state s
 pub record Ends (m : Model) (Fails : ℕ → ℕ → ℕ → ℕ → Type 0) (p : ℕ) (First : ℕ → ℕ → Type 0) (s f : ℕ) : Type 0 where

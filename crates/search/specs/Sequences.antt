@@ -1,6 +1,8 @@
 -- What a search tells of a sequence of jobs.
-use Rattle.std.specs.Prelude.{◌≡◌, ℕ, zero, suc, ◌<◌, ◌≤◌, List, [], ◌∷◌, length, Option, MatchOption, slice_index, slice_index_or}
+use Rattle.std.specs.Prelude.{◌≡◌, ℕ, zero, suc, ◌<◌, ◌≤◌, List, [], ◌∷◌, length, Result, MatchResult, slice_index, slice_index_or}
 use Rattle.calls.specs.declared.call.Job.{Job}
+use Rattle.calls.specs.declared.refusal.Refusal.{Refusal}
+use Rattle.calls.specs.declared.refusal.Refusal.TheVariants.{Late}
 use Rattle.inspections.specs.Verdict.{Verdict}
 use Rattle.rules.specs.Model.{Model}
 use Rattle.schedules.specs.Futures.{and_then}
@@ -29,16 +31,16 @@ pub record LateAt (m : Model) (s0 c0 : ℕ) (G : ℕ → List ℕ → ℕ) (js :
   pub late : CanPass m s0 c0 (G n) (slice_index_or js n nobody).due
   pub before : Judged m s0 c0 G js n old new
 
--- no job can be late, or the ticket is of the first that can
-abbrev pub Judges : Model → ℕ → ℕ → (ℕ → List ℕ → ℕ) → List Job → List ℕ → List ℕ → Option ℕ → Type 0
-Judges m s0 c0 G js old new r = MatchOption r (Judged m s0 c0 G js (length js) old new) (λ t. (n : ℕ) × LateAt m s0 c0 G js old new t n)
+-- no job can be late, or the refusal names the first that can
+abbrev pub Judges : Model → ℕ → ℕ → (ℕ → List ℕ → ℕ) → List Job → List ℕ → List ℕ → Result (Unit {0}) Refusal → Type 0
+Judges m s0 c0 G js old new r = MatchResult r (λ u. Judged m s0 c0 G js (length js) old new) (λ e. (t : ℕ) × (n : ℕ) × (e ≡ Late t) × LateAt m s0 c0 G js old new t n)
 
 -- the finish of waiting job k, on a machine that comes to `F h` under the list h
 abbrev pub finish_of : Verdict → (List ℕ → ℕ) → List Job → ℕ → List ℕ → ℕ
 finish_of V F js k = upto V F (suc k) js
 
 -- Where `row` tells when the machine is free for the jobs, and the path without faults has it free at t in the state s, that is what is answered of them.
-abbrev pub JudgesFrom : Model → Verdict → List ℕ → ℕ → ℕ → List Job → List ℕ → List ℕ → Option ℕ → Type 0
+abbrev pub JudgesFrom : Model → Verdict → List ℕ → ℕ → ℕ → List Job → List ℕ → List ℕ → Result (Unit {0}) Refusal → Type 0
 JudgesFrom m V row t s js old new r =
     (s0 c0 : ℕ) (F : List ℕ → ℕ) → s0 < m.size → Path m s0 c0 F t s → Front m V s0 c0 F row → Judges m s0 c0 (finish_of V F js) js old new r
 
@@ -47,5 +49,5 @@ abbrev pub board_finish : Verdict → World → ℕ → List ℕ → ℕ
 board_finish V w k h = slice_index (foreseen V w.clock w.machine w.waiting h) k
 
 -- what is answered of all jobs of a board
-abbrev pub JudgesBoard : Model → Verdict → World → List ℕ → List ℕ → Option ℕ → Type 0
+abbrev pub JudgesBoard : Model → Verdict → World → List ℕ → List ℕ → Result (Unit {0}) Refusal → Type 0
 JudgesBoard m V w old new r = Judges m w.state w.clock (board_finish V w) (board w) old new r

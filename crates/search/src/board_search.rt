@@ -18,7 +18,7 @@ use schedules::Moment;
 // How many numbers the search works in.
 const TABLE: usize = 16_384;
 
-// The ticket of the first job of the board that can be late. The worst finishes of the jobs before it, or of all, go into `finishes`.
+// Names the first job of the board that can be late, if there is one. The worst finishes of the jobs before it, or of all, go into `finishes`.
 fn first_late_of_board<'a, R: Rule, I: Inspection>(
     rule: &'a R,
     inspection: &'a I,
@@ -26,7 +26,7 @@ fn first_late_of_board<'a, R: Rule, I: Inspection>(
     waiting: &[Job],
     finishes: &mut [u32],
     work: &mut [u32; TABLE],
-) -> Option<u32>
+) -> Result<(), Refusal>
     requires fit { Fit (R.Rule.model rule.now) (world_at moment waiting.now) }
     requires room { length (board (world_at moment waiting.now)) ≤ length finishes.old }
     ensures { JudgesBoard (R.Rule.model rule.now) (I.Inspection.verdict inspection.now) (world_at moment waiting.now) finishes.old finishes.new result }
@@ -79,10 +79,7 @@ pub fn search<R: Rule, I: Inspection>(
     if finishes.len() < jobs_on(&moment.machine, waiting) {
         return Err(Refusal::ListFull);
     }
-    let late = first_late_of_board(rule, inspection, moment, waiting, finishes, work);
+    let found = first_late_of_board(rule, inspection, moment, waiting, finishes, work);
     work.fill(0);
-    match late {
-        Some(ticket) => Err(Refusal::Late { ticket }),
-        None => Ok(()),
-    }
+    found
 }

@@ -8,6 +8,7 @@ ghost use Rattle.search.specs.Jobs.{BeginsJob, Searchable};
 use crate::hits::Underway;
 use crate::judge::Judge;
 use crate::rows::{Row, clear, drop_before, keep};
+use crate::runs::Task;
 use calls::Job;
 use inspections::Inspection;
 use rules::Rule;
@@ -34,7 +35,11 @@ impl<R: Rule, I: Inspection> Judge<'_, R, I> {
         ensures { let m = R.Rule.model self.now.clean.rule.now in MatchOption result (job.due < max job.release path.time + job.length) (λ next. BeginsJob m job path.time path.state row.old row.new finish.new next.time next.state × (next.state < m.size)) }
     {
         let start = path.time.max(job.release);
-        if start as u64 + job.length as u64 > job.due as u64 {
+        let task = Task {
+            quarters: job.length,
+            due: job.due,
+        };
+        if task.is_late_from(start) {
             return None;
         }
         drop_before(row, job.release);

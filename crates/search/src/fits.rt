@@ -89,8 +89,5 @@ pub(crate) fn are_all_distinct(machine: &Option<Run>, waiting: &[Job]) -> bool
 pub(crate) fn jobs_on(machine: &Option<Run>, waiting: &[Job]) -> usize
     ensures { result ≡ length (on_machine machine.now ++ waiting.now) }
 {
-    match machine {
-        None => waiting.len(),
-        Some(_) => waiting.len() + 1,
-    }
+    waiting.len() + usize::from(machine.is_some())
 }

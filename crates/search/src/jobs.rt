@@ -8,7 +8,7 @@ use crate::first_starts::Faultless;
 use crate::judge::Judge;
 use crate::rows::{Row, latest};
 use crate::runs::Task;
-use calls::Job;
+use calls::{Job, Refusal};
 use inspections::Inspection;
 use rules::Rule;
 
@@ -36,7 +36,7 @@ impl<R: Rule, I: Inspection> Judge<'_, R, I> {
         false
     }
 
-    // The ticket of the first of the waiting jobs that can be late, on a machine that becomes free as `row` has it and on this path. The worst finishes of the jobs before
+    // Names the first of the waiting jobs that can be late, if there is one, on a machine that becomes free as `row` has it and on this path. The worst finishes of the jobs before
     // it, or of all, go into `finishes`.
     pub(crate) fn first_late(
         &self,
@@ -46,7 +46,7 @@ impl<R: Rule, I: Inspection> Judge<'_, R, I> {
         row: &mut Row,
         done: &mut Row,
         finish: &mut Row,
-    ) -> Option<u32>
+    ) -> Result<(), Refusal>
         requires waiting { AllByRecursion Searchable waiting.now }
         requires room { length waiting.now ≤ length finishes.old }
         requires path { path.state < (R.Rule.model self.now.clean.rule.now).size }
@@ -54,16 +54,17 @@ impl<R: Rule, I: Inspection> Judge<'_, R, I> {
     {
         'jobs: {
             for (place, job) in waiting.iter().enumerate() {
+                let late = Refusal::Late { ticket: job.ticket };
                 let Some(next) = self.begin_waiting(*job, path, row, finish) else {
-                    break 'jobs Some(job.ticket);
+                    break 'jobs Err(late);
                 };
                 if self.go_through(*job, row, done, finish) {
-                    break 'jobs Some(job.ticket);
+                    break 'jobs Err(late);
                 }
                 finishes[place] = latest(row, self.clean.rule.size());
                 path = next;
             }
-            None
+            Ok(())
         }
     }
 }

@@ -11,7 +11,7 @@ use crate::first_starts::Faultless;
 use crate::hits::Underway;
 use crate::judge::Judge;
 use crate::rows::{Row, latest};
-use calls::Job;
+use calls::{Job, Refusal};
 use inspections::Inspection;
 use rules::Rule;
 use schedules::{Moment, Run};
@@ -52,7 +52,7 @@ impl<R: Rule, I: Inspection> Judge<'_, R, I> {
         }
     }
 
-    // The ticket of the first job that can be late, the one on the machine or one behind it. The worst finishes of the jobs before it, or of all, go into `finishes`.
+    // Names the first job that can be late, if there is one: the one on the machine or one behind it. The worst finishes of the jobs before it, or of all, go into `finishes`.
     pub(crate) fn first_late_behind(
         &self,
         moment: Moment,
@@ -62,18 +62,19 @@ impl<R: Rule, I: Inspection> Judge<'_, R, I> {
         row: &mut Row,
         done: &mut Row,
         finish: &mut Row,
-    ) -> Option<u32>
+    ) -> Result<(), Refusal>
         requires machine { moment.machine ≡ Some run }
         requires fit { Fit (R.Rule.model self.now.clean.rule.now) (world_at moment waiting.now) }
         requires room { length waiting.now < length finishes.old }
         ensures { JudgesBoard (R.Rule.model self.now.clean.rule.now) (I.Inspection.verdict self.now.inspection.now) (world_at moment waiting.now) finishes.old finishes.new result }
     {
         let job = run.job;
+        let late = Refusal::Late { ticket: job.ticket };
         let Some(path) = self.begin_machine(moment.clock, moment.state, run, row, finish) else {
-            return Some(job.ticket);
+            return Err(late);
         };
         if self.go_through(job, row, done, finish) {
-            return Some(job.ticket);
+            return Err(late);
         }
         finishes[0] = latest(row, self.clean.rule.size());
         self.first_late(waiting, path, &mut finishes[1..], row, done, finish)

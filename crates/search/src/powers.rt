@@ -1,5 +1,5 @@
 // Many clean quarters at once: a row has for each state the state after so many of them.
-ghost use Rattle.std.specs.Prelude.{◌≡◌, ◌+◌, ◌-◌, ◌^◌, ◌<◌, ◌≤◌};
+ghost use Rattle.std.specs.Prelude.{◌≡◌, ℕ, ◌+◌, ◌^◌, ◌<◌, ◌≤◌};
 ghost use Rattle.search.specs.Powers.{Leads, Powers};
 ghost use Rattle.rules.specs.Model.{cleans};
 
@@ -22,10 +22,9 @@ fn one_clean<R: Rule>(rule: &R, row: &mut Row)
 }
 
 // One row more: from each state on to where the row before leads, and from there on once more.
-fn twice_as_many<R: Rule>(rule: &R, before: &Row, row: &mut Row, power: usize)
-    requires power { 0 < power }
-    requires before { Leads (R.Rule.model rule.now) (power - 1) before.now }
-    ensures { Leads (R.Rule.model rule.now) power row.new }
+fn twice_as_many<R: Rule>(rule: &R, before: &Row, row: &mut Row)
+    requires { (k : ℕ) × Leads (R.Rule.model rule.now) k before.now }
+    ensures { (k : ℕ) → Leads (R.Rule.model rule.now) k before.now → Leads (R.Rule.model rule.now) (k + 1) row.new }
 {
     let halves = &before[..rule.size() as usize];
     for (state, half) in halves.iter().enumerate() {
@@ -40,7 +39,7 @@ fn fill<R: Rule>(rule: &R, rows: &mut [Row; POWERS])
     one_clean(rule, &mut rows[0]);
     for power in 1..POWERS {
         let (done, rest) = rows.split_at_mut(power);
-        twice_as_many(rule, &done[power - 1], &mut rest[0], power);
+        twice_as_many(rule, &done[power - 1], &mut rest[0]);
     }
 }
 
@@ -52,7 +51,7 @@ pub(crate) struct CleanQuarters<'a, R: Rule> {
     ghost small: { (R.Rule.model rule.now).size ≤ 512 },
 }
 
-// By hand, since a derive is refused beside a ghost field.
+// By hand: a derive asks `Clone` and `Copy` of `R`, and `derive_where` takes no `Clone` beside a ghost field.
 impl<R: Rule> Clone for CleanQuarters<'_, R> {
     fn clone(&self) -> Result<Self, AllocError> {
         Ok(*self)

@@ -1,12 +1,12 @@
 // The rounds of one job: the runs that start as a row has it, and again those after the runs that were given up.
 ghost use Rattle.std.specs.Prelude.{◌≡◌, ◌+◌, ◌^◌, ◌<◌, ◌≤◌, MatchBool};
-ghost use Rattle.search.specs.RoundChains.{Late, Searched, Starts};
+ghost use Rattle.search.specs.Chains.{Starts};
+ghost use Rattle.search.specs.RoundChains.{Late, Searched};
 ghost use Rattle.search.specs.Hits.{Hit};
 ghost use Rattle.search.specs.Rounds.{LateOf, Ran};
 
-use crate::hits::Underway;
 use crate::judge::Judge;
-use crate::rows::{Row, clear, is_empty, keep};
+use crate::rows::{Row, clear, is_empty};
 use crate::runs::Task;
 use inspections::Inspection;
 use rules::Rule;
@@ -19,20 +19,8 @@ impl<R: Rule, I: Inspection> Judge<'_, R, I> {
     {
         let live = &starts[..self.clean.rule.size() as usize];
         for (state, latest) in live.iter().enumerate() {
-            if *latest > 0 {
-                let state = state as u32;
-                let start = *latest - 1;
-                if start as u64 + task.quarters as u64 > task.due as u64 {
-                    return true;
-                }
-                let end = self.clean.after_cleans(state, task.quarters);
-                keep(finish, end, start + task.quarters);
-                let run = Underway {
-                    quarters: task.quarters,
-                    gone: 0,
-                    begun: start,
-                };
-                self.keep_hits(run, state, next);
+            if *latest > 0 && self.run_from(task, *latest - 1, state as u32, next, finish) {
+                return true;
             }
         }
         false

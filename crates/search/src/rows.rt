@@ -27,7 +27,7 @@ pub(crate) fn is_empty(row: &Row) -> bool
 }
 
 // Empties the row.
-pub(crate) fn clear(row: &mut [u32])
+pub(crate) fn clear(row: &mut Row)
     ensures { Empty row.new }
 {
     row.fill(0);
@@ -47,8 +47,8 @@ pub(crate) struct Sweep {
     pub way: Way,
 }
 
-// Down to the last of the first so many states for which `row` has a later time than `done`. It goes by index, since of two slices
-// zipped and reversed std tells a proof nothing.
+// Down to the last of the first so many states for which `row` has a later time than `done`. It goes by index, since std has no
+// lemma of a `zip` that is gone through from the back.
 fn down(row: &Row, done: &Row, states: usize) -> Option<Sweep>
     requires { states ≤ 512 }
     ensures { MatchOption result ((s : ℕ) → s < states → Pending row.now done.now s → ⊥) (λ next. (next.state < states) × Pending row.now done.now next.state) }
@@ -94,14 +94,8 @@ pub(crate) fn next_pending(row: &Row, done: &Row, states: usize, sweep: Sweep) -
     ensures { MatchOption result ((s : ℕ) → s < states → Pending row.now done.now s → ⊥) (λ next. (next.state < states) × Pending row.now done.now next.state) }
 {
     match sweep.way {
-        Way::Down => match down(row, done, sweep.state) {
-            None => up(row, done, sweep.state, states),
-            found => found,
-        },
-        Way::Up => match up(row, done, sweep.state, states) {
-            None => down(row, done, sweep.state),
-            found => found,
-        },
+        Way::Down => { down(row, done, sweep.state).or_else(|| up(row, done, sweep.state, states)) }
+        Way::Up => up(row, done, sweep.state, states).or_else(|| down(row, done, sweep.state)),
     }
 }
 
@@ -116,7 +110,7 @@ pub(crate) fn drop_before(row: &mut Row, time: u32)
     }
 }
 
-// The latest time of the first so many states, or 0 where they have none.
+// The latest time of the first so many states. It is 0 too where they have none, which is enough: a caller knows that they have one.
 pub(crate) fn latest(row: &Row, states: u32) -> u32
     requires { states ≤ 512 }
     ensures most { (s t : ℕ) → s < states → In row.now s t → t ≤ result }

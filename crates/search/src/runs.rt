@@ -1,6 +1,9 @@
 // The runs of one job: those that start as a row has it, and again those after the runs that were given up.
 ghost use Rattle.std.specs.Prelude.{◌≡◌, ◌+◌, ◌^◌, ◌<◌, ◌≤◌, MatchBool};
+ghost use Rattle.rules.specs.Model.{cleans};
 ghost use Rattle.search.specs.Chains.{Passes, Searched};
+ghost use Rattle.search.specs.Hits.{Hit};
+ghost use Rattle.search.specs.Rows.{Grew, KeepsOne};
 
 use crate::hits::Underway;
 use crate::judge::Judge;
@@ -17,7 +20,42 @@ pub(crate) struct Task {
     ghost early: { due + 129 < 2 ^ 32 },
 }
 
+impl Task {
+    // Whether a run that starts then would end after the due quarter, were it clean.
+    pub(crate) fn is_late_from(self, start: u32) -> bool
+        ensures { MatchBool result (self.due < start + self.quarters) (start + self.quarters ≤ self.due) }
+    {
+        start as u64 + self.quarters as u64 > self.due as u64
+    }
+}
+
 impl<R: Rule, I: Inspection> Judge<'_, R, I> {
+    // Whether the run that starts then in this state would end after the due quarter, were it clean. If not, `finish` gains its clean end and `next` how it is given up.
+    pub(crate) fn run_from(
+        &self,
+        task: Task,
+        start: u32,
+        state: u32,
+        next: &mut Row,
+        finish: &mut Row,
+    ) -> bool
+        requires { state < (R.Rule.model self.now.clean.rule.now).size }
+        ensures { let m = R.Rule.model self.now.clean.rule.now in let V = I.Inspection.verdict self.now.inspection.now in MatchBool result (task.due < start + task.quarters) ((start + task.quarters ≤ task.due) × Grew (KeepsOne (cleans m task.quarters state) (start + task.quarters)) finish.old finish.new × Grew (Hit m V task.quarters 0 task.quarters state start) next.old next.new) }
+    {
+        if task.is_late_from(start) {
+            return true;
+        }
+        let end = self.clean.after_cleans(state, task.quarters);
+        keep(finish, end, start + task.quarters);
+        let run = Underway {
+            quarters: task.quarters,
+            gone: 0,
+            begun: start,
+        };
+        self.keep_hits(run, state, next);
+        false
+    }
+
     // Whether the job can be late, whose first runs start as `starts` has it. If it cannot, `starts` gains the starts of all its runs and `finish` how it can end.
     // `done` is used for the starts that were gone through.
     pub(crate) fn runs(
@@ -38,20 +76,10 @@ impl<R: Rule, I: Inspection> Judge<'_, R, I> {
         while let Some(next) = next_pending(starts, done, states, sweep) {
             sweep = next;
             let latest = starts[sweep.state];
-            let start = latest - 1;
-            if start as u64 + task.quarters as u64 > task.due as u64 {
+            done[sweep.state] = latest;
+            if self.run_from(task, latest - 1, sweep.state as u32, starts, finish) {
                 return true;
             }
-            done[sweep.state] = latest;
-            let state = sweep.state as u32;
-            let end = self.clean.after_cleans(state, task.quarters);
-            keep(finish, end, start + task.quarters);
-            let run = Underway {
-                quarters: task.quarters,
-                gone: 0,
-                begun: start,
-            };
-            self.keep_hits(run, state, starts);
         }
         false
     }

@@ -41,15 +41,15 @@ impl Load {
     }
 }
 
-// How often each board is searched.
+// How often each board is searched for its time, where times are asked for; else it is searched once.
 #[derive(Clone, Copy)]
 struct Bench<'a> {
     rt: &'a HostRuntime,
-    rounds: u32,
+    rounds: Option<u32>,
 }
 
 impl Bench<'_> {
-    // Searches the load on a fresh board: how many microseconds it took, and the worst finish of its last job.
+    // Searches the load on a fresh board: how many microseconds it took, and the worst finish of its last job, or 0 where a job can be late.
     fn one_search<R: Rule, I: Inspection>(
         &self,
         rule: &R,
@@ -78,7 +78,7 @@ impl Bench<'_> {
         Ok((taken, finishes[few.saturating_sub(1)]))
     }
 
-    // Searches the load, and prints the worst finish of its last job, with the least and the most time where it is searched more than once.
+    // Searches the load, and prints the worst finish of its last job, with the least and the most time where times are asked for.
     fn report<R: Rule, I: Inspection>(
         &self,
         name: &str,
@@ -88,16 +88,15 @@ impl Bench<'_> {
     ) -> io::Result<()> {
         let (mut least, last) = self.one_search(rule, inspection, load)?;
         let mut most = least;
-        for _ in 1..self.rounds {
+        for _ in 1..self.rounds.unwrap_or(1) {
             let (taken, _) = self.one_search(rule, inspection, load)?;
             least = least.min(taken);
             most = most.max(taken);
         }
         let rt = self.rt;
-        if self.rounds == 1 {
-            println!(rt; "{name}: {last}")
-        } else {
-            println!(rt; "{name}: {last}, {least} to {most} microseconds")
+        match self.rounds {
+            None => println!(rt; "{name}: {last}"),
+            Some(_) => println!(rt; "{name}: {last}, {least} to {most} microseconds"),
         }
     }
 
@@ -181,7 +180,7 @@ fn growth(bench: Bench<'_>) -> io::Result<()> {
 }
 
 fn main(rt: HostRuntime) -> io::Result<()> {
-    let rounds = if env::args(&rt)?.count() > 1 { 30 } else { 1 };
+    let rounds = (env::args(&rt)?.count() > 1).then_some(30);
     let bench = Bench { rt: &rt, rounds };
     worst_boards(bench)?;
     growth(bench)

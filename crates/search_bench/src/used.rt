@@ -24,11 +24,7 @@ impl Rule for Used {
     }
 
     fn after_clean(&self, state: u32) -> Option<u32> {
-        if state < self.size() {
-            Some(state)
-        } else {
-            None
-        }
+        (state < self.size()).then_some(state)
     }
 
     fn after_spoiled(&self, state: u32) -> Option<u32> {

@@ -44,13 +44,8 @@ pub(crate) fn running<R: Rule>(
 
 // Whether the table is 0 in its first 16,384 numbers and 7 behind them.
 fn is_swept(table: &[u32]) -> bool {
-    for (place, number) in table.iter().enumerate() {
-        let left = if place < 16_384 { 0 } else { 7 };
-        if *number != left {
-            return false;
-        }
-    }
-    true
+    let mut behind = table.iter().skip(16_384);
+    table.iter().take(16_384).all(|number| *number == 0) && behind.all(|number| *number == 7)
 }
 
 // The search answers so, writes just these worst finishes, and sweeps its table.
@@ -69,9 +64,9 @@ pub(crate) fn check_search<R: Rule, I: Inspection>(
         search(rule, inspection, moment, waiting, &mut finishes, &mut table),
         answer
     );
-    for (place, finish) in finishes.iter().enumerate() {
-        let expected = if place < worst.len() { worst[place] } else { 9 };
-        assert_eq!(rt; *finish, expected);
+    assert!(rt; finishes.starts_with(worst));
+    for finish in finishes.iter().skip(worst.len()) {
+        assert_eq!(rt; *finish, 9);
     }
     assert!(rt; is_swept(&table));
 }

@@ -46,6 +46,7 @@ fn played<R: Rule, I: Inspection>(
     waiting: &[Job],
     faults: u32,
 ) -> Option<[u32; 4]> {
+    // one that does not come is later than every due quarter
     let mut finishes = [u32::MAX; 4];
     let mut places = finishes.iter_mut();
     let mut left = waiting;

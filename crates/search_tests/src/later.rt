@@ -2,7 +2,7 @@
 ghost use Rattle.search_tests.specs.Later.{quarter_later};
 ghost use Rattle.std.proofs.Common.{rules};
 
-use inspections::Inspection;
+use inspections::{Inspection, in_run};
 
 // The run is given up one quarter after its first fault, at its end at the latest.
 #[derive(Clone, Copy)]
@@ -18,10 +18,10 @@ impl Inspection for QuarterLater {
     ghost bounded = { Prim.search rules };
 
     fn given_up_after(&self, length: u32, first_fault: u32) -> u32 {
-        if 1 <= first_fault && first_fault <= length {
-            length.min(first_fault.saturating_add(1))
-        } else {
-            0
-        }
+        in_run(
+            length,
+            first_fault,
+            length.min(first_fault.saturating_add(1)),
+        )
     }
 }

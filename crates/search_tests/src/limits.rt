@@ -29,28 +29,17 @@ fn after_runs(length: u32, k: u32) -> [u32; 24] {
 #[test]
 fn full_boards(rt: HostRuntime) {
     let late = Err(Refusal::Late { ticket: 24 });
-    for (length, faults, kept) in [
-        (96, 18, true),
-        (96, 19, false),
-        (64, 40, true),
-        (64, 41, false),
+    for (length, faults, answer, found) in [
+        (96, 18, Ok(()), 24),
+        (96, 19, late, 23),
+        (64, 40, Ok(()), 24),
+        (64, 41, late, 23),
     ] {
         let worst = after_runs(length, faults);
+        let worst = &worst[..worst.len().min(found)];
         let rule = Count::new(faults);
         let moment = fresh(&rule);
-        if kept {
-            check_search(&rt, &rule, &AtEnd, moment, &full(length), Ok(()), &worst);
-        } else {
-            check_search(
-                &rt,
-                &rule,
-                &AtEnd,
-                moment,
-                &full(length),
-                late,
-                &worst[0..23],
-            );
-        }
+        check_search(&rt, &rule, &AtEnd, moment, &full(length), answer, worst);
     }
 }
 

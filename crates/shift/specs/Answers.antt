@@ -1,6 +1,7 @@
 -- What a line after the first is answered, on a board with an empty machine.
 use Rattle.std.specs.Prelude.{ℕ, Bool, false, cond, ◌||◌, List, [], ◌∷◌, Ok, Err, Result, ◌==◌}
-use Rattle.board.specs.Quarters.{Moment, Quarter, moment, passed, spoiled}
+use Rattle.board.specs.Quarters.{Quarter, passed, spoiled}
+use Rattle.board.specs.declared.moment.Moment.{Moment}
 use Rattle.calls.specs.declared.answer.Answer.{Answer}
 use Rattle.calls.specs.declared.answer.Answer.TheVariants.{Quarter as QuarterOver}
 use Rattle.calls.specs.declared.answer.Event.{Event}
@@ -30,9 +31,9 @@ abbrev pub over : Result Event Refusal → Result Answer Refusal
 over (Ok event) = Ok (QuarterOver event)
 over (Err refusal) = Err refusal
 
--- the answer, and the moment of a clock and a state
-abbrev pub turn : Result Answer Refusal → ℕ → ℕ → Turn
-turn answer clock state = record { answer = answer; after = moment clock state }
+-- the turn of an answer and the moment after it
+abbrev pub turn : Result Answer Refusal → Moment → Turn
+turn answer after = record { answer = answer; after = after }
 
 -- the answer and the moment that a quarter gives
 abbrev pub quarter_turn : Quarter → Turn

@@ -1,5 +1,4 @@
 // A line to its answer.
-ghost use Rattle.board.specs.Quarters.{moment};
 ghost use Rattle.shift.specs.Answers.{answered, heard as heard_of, turn, unheard as unheard_of};
 ghost use Rattle.std.specs.Prelude.{◌≡◌, ℕ, List};
 ghost use Rattle.shift_text.specs.Lines.{kept};
@@ -34,13 +33,14 @@ pub fn answer<R: Rule + Drop, I: Inspection + Drop>(
     board: &mut Board<R, I>,
     line: &[u8],
 ) -> Result<Answer, Refusal>
-    ensures turn { turn result board.new.clock board.new.state ≡ answered (R.Rule.model board.old.rule) (moment board.old.clock board.old.state) (heard_of line.now) }
-    ensures cut { (whole : List ℕ) → line.now ≡ kept whole → turn result board.new.clock board.new.state ≡ answered (R.Rule.model board.old.rule) (moment board.old.clock board.old.state) (heard_of whole) }
+    ensures turn { turn result board.new.moment ≡ answered (R.Rule.model board.old.rule) board.old.moment (heard_of line.now) }
+    ensures cut { (whole : List ℕ) → line.now ≡ kept whole → turn result board.new.moment ≡ answered (R.Rule.model board.old.rule) board.old.moment (heard_of whole) }
     ensures kept { (board.new.rule ≡ board.old.rule) × (board.new.inspection ≡ board.old.inspection) }
 {
     match heard(line)? {
         Call::Pass => Ok(Answer::Quarter(board.pass()?)),
         Call::Spoil => Ok(Answer::Quarter(board.spoil()?)),
+        // No line comes here, since `heard` refuses every line that begins with their letters.
         Call::Book { .. } | Call::Withdraw { .. } => Err(Refusal::Malformed { field: 1 }),
     }
 }

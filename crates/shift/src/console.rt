@@ -58,24 +58,23 @@ impl<I: Read + Drop, O: Write + Drop> Console<I, O> {
     // The next line, without its line feed, which the last line may lack; None where there is no line more.
     pub(crate) fn next_line(&mut self) -> io::Result<Option<&[u8]>> {
         self.line.clear();
-        let mut begun = false;
+        if self.input.buffer().is_empty() && !self.refill()? {
+            return Ok(None);
+        }
         // A loop must be seen to end; no input has so many chunks.
         for _ in 0..u64::MAX {
-            if self.input.buffer().is_empty() && !self.refill()? {
-                break;
-            }
-            begun = true;
             let chunk = self.input.buffer();
             let length = chunk.len();
-            match self.line.feed(chunk) {
-                Some(place) => {
-                    self.input.consume(place + 1);
-                    break;
-                }
-                None => self.input.consume(length),
+            if let Some(place) = self.line.feed(chunk) {
+                self.input.consume(place + 1);
+                break;
+            }
+            self.input.consume(length);
+            if !self.refill()? {
+                break;
             }
         }
-        Ok(begun.then_some(self.line.bytes()))
+        Ok(Some(self.line.bytes()))
     }
 
     // The reply to the line of this number.

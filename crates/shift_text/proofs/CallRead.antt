@@ -6,8 +6,9 @@ use Rattle.calls.specs.declared.refusal.Refusal.{Refusal}
 use Rattle.shift_text.proofs.Cutting.{call_kept}
 use Rattle.shift_text.proofs.FirstWrong.{Names, Reader, chosen, ended_names, field, field_names, first_wrong, from_fields, names_same}
 use Rattle.shift_text.proofs.Inverting.{at_field_ok, fields_tabs, first_some, one_byte_some}
-use Rattle.shift_text.proofs.OneText.{all_whole, by_letter_says, call_says, says_call}
+use Rattle.shift_text.proofs.OneText.{by_letter_says, call_says, each_decimal, says_call}
 use Rattle.shift_text.proofs.Spelling.{number_decimal}
+use Rattle.shift_text.proofs.Splitting.{Whole, whole_decimal}
 use Rattle.shift_text.specs.Fields.{Field, beside, fields, first, number, one_byte}
 use Rattle.shift_text.specs.Lines.{at_field, book, by_letter, call, ended, withdraw}
 use Rattle.shift_text.specs.Texts.{Read, Writable, letter, numbers, text}
@@ -81,7 +82,7 @@ letter_whole Pass e = omega arith
 letter_whole Spoil e = omega arith
 
 text_fields : (c : Call) → Writable c → fields (text c) ≡ (letter c ∷ []) ∷ map decimal (numbers c)
-text_fields c w = fields_tabs (letter c ∷ []) (map decimal (numbers c)) (letter_whole c, tt) (all_whole (numbers c) w)
+text_fields c w = fields_tabs (letter c ∷ []) (map decimal (numbers c)) (letter_whole c, tt) (each_decimal Whole whole_decimal (numbers c) w)
 
 -- fields that say a call are those of its text
 said_fields : (gs : List Field) (c : Call) → from_fields by_letter gs ≡ Ok c → Writable c × (fields (text c) ≡ gs)

@@ -2,12 +2,8 @@
 use Rattle.std.proofs.Common.{◌≡◌, ℕ, ◌+◌, ◌-◌, ◌*◌, ◌^◌, ◌<◌, ◌≤◌, List, [], ◌∷◌, ◌++◌, length, get_or, take, drop, decimal, sym, ap, ◌∙◌, inl, append_assoc, arith}
 use lib.Arith.{digits_div, digits_mod}
 use Rattle.std.proofs.lemmas.Fmt.{decimal_digit, decimal_step}
-use Rattle.std.proofs.lemmas.List.{take_all}
+use Rattle.std.proofs.lemmas.List.{take_rest}
 use Rattle.shift_text.specs.Numbers.{Digit, Lengthened, Longest}
-
--- what a pattern `[b, rest @ ..]` names as rest
-pub tail : (b : ℕ) (bs : List ℕ) → take (length (b ∷ bs) - 1) (drop 1 (b ∷ bs)) ≡ bs
-tail b bs = take_all (length (b ∷ bs) - 1) bs (omega arith)
 
 decimal_longer : (v b : ℕ) → 0 < v → v < 10000 → Digit b → decimal (v * 10 + (b - 48)) ≡ decimal v ++ (b ∷ [])
 decimal_longer v b pos small digit =
@@ -28,13 +24,13 @@ pub lengthened_more : (v w : ℕ) (bs rest : List ℕ) → 1 ≤ length bs → 0
     Lengthened (v * 10 + (get_or bs 0 0 - 48)) (take (length bs - 1) (drop 1 bs)) w rest → Lengthened v bs w rest
 lengthened_more v w [] rest some pos small low high more = absurd (omega arith)
 lengthened_more v w (b ∷ bs) rest some pos small low high more =
-    lengthened_cons v b w bs rest pos small (low, high) (rw (tail b bs) at more)
+    lengthened_cons v b w bs rest pos small (low, high) (rw (take_rest (b ∷ bs) 1) at more)
 
 -- 0 was read
 pub longest_zero : (bs : List ℕ) → 1 ≤ length bs → get_or bs 0 0 ≡ 48 → Longest bs 0 (take (length bs - 1) (drop 1 bs))
 longest_zero [] some zero = absurd (omega arith)
 longest_zero (b ∷ bs) some zero =
-    inl (record { small = omega arith; whole = simp (zero, tail b bs, decimal_digit 0 (omega arith)); ends = λ pos. absurd (omega arith) })
+    inl (record { small = omega arith; whole = simp (zero, take_rest (b ∷ bs) 1, decimal_digit 0 (omega arith)); ends = λ pos. absurd (omega arith) })
 
 -- the first digit was read, and then those behind it
 pub longest_more : (w : ℕ) (bs rest : List ℕ) → 1 ≤ length bs → 49 ≤ get_or bs 0 0 → get_or bs 0 0 ≤ 57 →
@@ -43,5 +39,5 @@ longest_more w [] rest some low high more = absurd (omega arith)
 longest_more w (b ∷ bs) rest some low high more =
     let back : 48 + (b - 48) ≡ b = omega arith in
     let first : decimal (b - 48) ≡ b ∷ [] = decimal_digit (b - 48) (omega arith) ∙ simp back in
-    let begins = (rw (tail b bs) at more).1 in
+    let begins = (rw (take_rest (b ∷ bs) 1) at more).1 in
     inl (record { small = begins.small; whole = sym (ap (λ ds. ds ++ bs) first) ∙ begins.whole; ends = begins.ends })

@@ -30,20 +30,14 @@ pub record Names {X : Type 0} (i : ℕ) (next : Reader X) : Type 0 where
   pub taken : next fields ≡ Ok value
   pub wrong : (fs : List Field) (r : Refusal) → next fs ≡ Err r → Wrong i next fs r
 
-ok_err : {X : Type 0} (x : X) (r : Refusal) → ◌≡◌ {A = Result X Refusal} (Ok x) (Err r) → ⊥
-ok_err x r e = grind arith
-
 malformed_is : {X : Type 0} (i : ℕ) (r : Refusal) → ◌≡◌ {A = Result X Refusal} (Err (Malformed i)) (Err r) → r ≡ Malformed (i + 0)
 malformed_is i r e = let is : Malformed i ≡ r = cc in sym is ∙ ap Malformed (sym (add-zero i))
-
-nil_cons : (f : Field) (fs : List Field) → [] ≡ f ∷ fs → ⊥
-nil_cons f fs e = grind arith
 
 pub ended_names : {X : Type 0} (i : ℕ) (x : X) → Names i (λ fs. ended i fs x)
 ended_names {X} i x = record { fields = []; value = x; taken = refl; wrong = refuses }
   where
     refuses : (fs : List Field) (r : Refusal) → ended i fs x ≡ Err r → Wrong i (λ gs. ended i gs x) fs r
-    refuses [] r e = absurd (ok_err x r e)
+    refuses [] r e = absurd (grind arith)
     refuses (f ∷ fs) r e = record {
       more = 0;
       is = malformed_is {X = X} i r e;
@@ -55,8 +49,8 @@ ended_names {X} i x = record { fields = []; value = x; taken = refl; wrong = ref
     }
       where
         beyond : (gs : List Field) (y : X) → ended i gs x ≡ Ok y → take 1 gs ≡ take 1 (f ∷ fs) → ⊥
-        beyond [] y t b = nil_cons f [] b
-        beyond (g ∷ gs) y t b = ok_err y (Malformed i) (sym t)
+        beyond [] y t b = grind arith
+        beyond (g ∷ gs) y t b = grind arith
 
 -- a reader that answers alike names alike
 pub names_same : {X : Type 0} (i : ℕ) (next other : Reader X) → ((fs : List Field) → next fs ≡ other fs) → Names i other → Names i next
@@ -138,7 +132,7 @@ module _ {A X : Type 0} (i : ℕ) (read : Field → Option A) (next : A → Read
     by_read f fs r (Some a) is e = later f fs r a is e
 
     refuses : (fs : List Field) (r : Refusal) → field fs ≡ Err r → Wrong i field fs r
-    refuses [] r e = here [] r fields0 (after a0).value taken0 (malformed_is {X = X} i r e) (λ a f hs found b. nil_cons f [] (sym b))
+    refuses [] r e = here [] r fields0 (after a0).value taken0 (malformed_is {X = X} i r e) (λ a f hs found b. grind arith)
     refuses (f ∷ fs) r e = by_read f fs r (read f) refl e
 
     pub field_names : Names i field
@@ -161,7 +155,7 @@ module _ {X : Type 0} (by_letter : ℕ → Reader X) where
   -- a line that is not too long says what its fields say
   within : (b : Bool) (o : Option (ℕ × List Field)) (x : X) → at_field 1 (cond b o None) by_letter ≡ Ok x → at_field 1 o by_letter ≡ Ok x
   within true o x e = e
-  within false o x e = absurd (ok_err x (Malformed 1) (sym e))
+  within false o x e = absurd (grind arith)
 
   short : (line : List ℕ) → length line ≤ 80 → says line ≡ from_fields (fields line)
   short line few =

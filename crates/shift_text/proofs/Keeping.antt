@@ -1,5 +1,5 @@
 -- More bytes of a line, of which the first 81 are kept.
-use Rattle.std.proofs.Common.{◌≡◌, ℕ, ◌+◌, ◌-◌, ◌≤◌, Bool, eqb, ltb, List, ◌++◌, length, get_or, min, take, Some, None, Option, sym, ap, ◌∙◌, inl, inr, arith, length-take}
+use Rattle.std.proofs.Common.{◌≡◌, ℕ, ◌+◌, ◌-◌, ◌≤◌, Bool, eqb, ltb, List, ◌++◌, length, get_or, min, take, Some, None, Option, sym, ap, ◌∙◌, inl, inr, arith, length-take, drop, drop-drop}
 use Rattle.shift_text.specs.Buffers.{Fed, GoesOn}
 use Rattle.shift_text.specs.Lines.{kept}
 use Rattle.std.proofs.Math.Nat.{min_comm}
@@ -10,7 +10,8 @@ use Rattle.std.proofs.lemmas.List.{take-append-le, take-take, take_all, take_min
 use Rattle.std.proofs.lemmas.List.Quantifiers.{position-Some}
 use Rattle.std.proofs.lemmas.List.Sums.{fails_before_first}
 use Rattle.std.proofs.lemmas.Option.{none-some}
-use Rattle.std.proofs.lemmas.Slice.{take-put_mid}
+use Rattle.std.proofs.Math.ListN.{drop_of_length-le}
+use Rattle.std.proofs.lemmas.Slice.{drop-put_mid, take-put_mid}
 use borrow.Rule.Slice.PartMut.{put_mid}
 use Rattle.std.specs.List.{position, position_or_len}
 use Rattle.std.specs.Option.{unwrap_or}
@@ -46,6 +47,20 @@ appended xs ys bs used room k all within is e =
     take-put_mid used k xs ys (used + room) (omega arith) (omega arith)
     ∙ ap (λ cs. take used xs ++ cs) (e ∙ ap (λ n. take n bs) is)
     ∙ with_room (take used xs) bs (81 - used) (omega arith)
+
+-- What lies behind them then: what lay behind so many bytes more.
+pub behind_appended : (xs ys bs : List ℕ) (used room k : ℕ) → length xs ≡ 81 → used ≤ 81 → room ≡ min (length bs) (81 - used) → ys ≡ take room bs → k ≡ room →
+    drop (used + room) (put_mid used k xs ys) ≡ drop (length bs) (drop used xs)
+behind_appended xs ys bs used room k all within is e whole =
+    let long : length ys ≡ k = ap length e ∙ length-take room bs ∙ omega arith in
+    drop-put_mid used k xs ys (used + room) (omega arith) (omega arith) long
+    ∙ elim (cases_lt (length bs) (81 - used)) [
+      | inl fits ↦ ap (λ n. drop n xs) (let n : used + room ≡ used + length bs = omega arith in n) ∙ sym (drop-drop (length bs) used xs)
+      | inr over ↦
+          drop_of_length-le xs (omega arith)
+          ∙ sym (drop_of_length-le xs {i = used + length bs} (omega arith))
+          ∙ sym (drop-drop (length bs) used xs)
+    ]
 
 -- a byte is a line feed
 abbrev feeds : ℕ → Bool

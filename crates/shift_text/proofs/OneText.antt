@@ -1,6 +1,8 @@
 -- A line says a call just where it is the call's text.
-use Rattle.std.proofs.Common.{◌≡◌, ℕ, suc, ◌*◌, ◌<◌, ◌≤◌, cond, eqb, ◌⊎◌, List, [], ◌∷◌, map, length, Ok, decimal, sym, refl, ap, ◌∙◌, subst, ap₂, inl, inr, arith, length-append}
+use Rattle.std.proofs.Common.{◌≡◌, ℕ, ◌*◌, ◌<◌, ◌≤◌, cond, eqb, ◌⊎◌, List, [], ◌∷◌, map, length, Ok, decimal, sym, refl, ap, ◌∙◌, subst, ap₂, inl, inr, arith, length-append}
 use Rattle.std.proofs.lemmas.Fmt.{length-decimal-le}
+use Rattle.std.proofs.lemmas.List.{length-map}
+use Rattle.std.proofs.lemmas.List.Elements.{All-from_recursion, All-map, All-weaker, recursion_from_All}
 use Rattle.std.proofs.lemmas.Bool.{cases_Bool, cond-false, cond-true, eqb-true}
 use Rattle.std.specs.List.{AllByRecursion}
 use Rattle.calls.specs.declared.call.Call.{Call}
@@ -95,23 +97,16 @@ Small ns = AllByRecursion (λ n. n < 100000) ns
 abbrev decimals : List ℕ → List Field
 decimals ns = map decimal ns
 
-pub all_whole : (ns : List ℕ) → Small ns → AllByRecursion Whole (decimals ns)
-all_whole [] s = tt
-all_whole (n ∷ ns) s = (whole_decimal n s.0, all_whole ns s.1)
-
-all_short : (ns : List ℕ) → Small ns → AllByRecursion Short (decimals ns)
-all_short [] s = tt
-all_short (n ∷ ns) s = (short_decimal n s.0, all_short ns s.1)
-
-length_decimals : (ns : List ℕ) → length (decimals ns) ≡ length ns
-length_decimals [] = refl
-length_decimals (n ∷ ns) = ap suc (length_decimals ns)
+-- what holds of the digits of each small number holds of each field
+pub each_decimal : (P : Field → Type 0) → ((n : ℕ) → n < 100000 → P (decimal n)) → (ns : List ℕ) → Small ns → AllByRecursion P (decimals ns)
+each_decimal P small ns s =
+    recursion_from_All P _ (All-map P decimal ns (All-weaker _ _ small ns (All-from_recursion _ ns s)))
 
 -- a letter and at most five numbers are read by the letter
 lettered_numbers : (l : ℕ) (ns : List ℕ) → (l ≡ 9 → ⊥) → length ns ≤ 5 → Small ns → call (line_of l (decimals ns)) ≡ by_letter l (decimals ns)
 lettered_numbers l ns ne few small =
-    let long = length_tabs (decimals ns) (all_short ns small) in
-    let read = some_lettered l (decimals ns) ne (all_whole ns small) (omega (arith, length_decimals ns, long)) in
+    let long = length_tabs (decimals ns) (each_decimal Short short_decimal ns small) in
+    let read = some_lettered l (decimals ns) ne (each_decimal Whole whole_decimal ns small) (omega (arith, length-map ns decimal, long)) in
     ap (λ o. at_field 1 o by_letter) read
 
 pub says_call : (c : Call) → Writable c → call (text c) ≡ Ok c

@@ -4,12 +4,12 @@ use Rattle.std.proofs.lemmas.Fmt.{decimal_digit, digits_decimal, length-decimal-
 use Rattle.std.proofs.lemmas.Str.Parse.{digits_value_short}
 use Rattle.std.proofs.lemmas.Bool.{and_parts, cases_eq, cases_lt, ne_eqb}
 use Rattle.std.proofs.lemmas.Bool.Decides.{nat_tests}
+use Rattle.std.proofs.lemmas.List.{take_rest}
 use Rattle.std.specs.List.{AllByRecursion}
 use Rattle.std.specs.Str.{all_ascii_digits}
 use Rattle.std.specs.Char.{is_ascii_digit}
 use Rattle.shift_text.specs.Fields.{Field, beside, fields, first, left, number, onto}
 use Rattle.shift_text.specs.Numbers.{Begins, Digit, Longest, NoDigit}
-use Rattle.shift_text.proofs.Digits.{tail}
 use Rattle.shift_text.proofs.Spelling.{decimal_number, leads, number_decimal, own}
 
 -- no byte is a tab
@@ -146,7 +146,7 @@ begins_last bs (r ∷ rest) v b none = absurd (omega arith)
 
 begins_tab : (bs rest : List ℕ) (v : ℕ) → Begins bs v rest → 1 ≤ length rest → get_or rest 0 0 ≡ 9 → first number (fields bs) ≡ Some (v, left (Some (take (length rest - 1) (drop 1 rest))))
 begins_tab bs [] v b some tab = absurd (omega arith)
-begins_tab bs (r ∷ rest) v b some tab = rw (tail r rest, b.whole, tab) (field_more v rest b.small)
+begins_tab bs (r ∷ rest) v b some tab = rw (take_rest (r ∷ rest) 1, b.whole, tab) (field_more v rest b.small)
 
 begins_wrong : (bs rest : List ℕ) (v : ℕ) → Begins bs v rest → 1 ≤ length rest → (get_or rest 0 0 ≡ 9 → ⊥) → first number (fields bs) ≡ None
 begins_wrong bs [] v b some ne = absurd (omega arith)

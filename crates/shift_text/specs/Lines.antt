@@ -20,10 +20,6 @@ abbrev pub Took : {A : Type 0} → (Field → Option A) → Unread → Unread �
 Took read before after (Ok a) = (first read before.fields ≡ Some (a, after.fields)) × (after.next ≡ before.next + 1)
 Took read before after (Err refusal) = (first read before.fields ≡ None) × (refusal ≡ Malformed before.next) × (after ≡ before)
 
--- nothing of the line is read
-abbrev pub whole_line : List ℕ → Unread
-whole_line line = record { fields = fields line; next = 1 }
-
 -- the line has no field i
 abbrev pub ended : {X : Type 0} → ℕ → List Field → X → Result X Refusal
 ended i [] x = Ok x

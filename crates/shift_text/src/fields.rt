@@ -1,12 +1,10 @@
 // The fields of a line of text, read one after another.
-ghost use Rattle.shift_text.specs.Fields.{left, number as number_of, one_byte};
-ghost use Rattle.shift_text.specs.Lines.{Took, ended, whole_line};
-ghost use Rattle.shift_text.specs.Openings.{amount, inspection};
+ghost use Rattle.shift_text.specs.Fields.{left};
+ghost use Rattle.shift_text.specs.Lines.{Took, ended, lettered};
 ghost use Rattle.std.specs.Option.{option_map};
-ghost use Rattle.std.specs.Prelude.{◌≡◌, ◌+◌, ◌<◌, ◌≤◌, MatchResult, length};
+ghost use Rattle.std.specs.Prelude.{◌≡◌, ◌+◌, MatchResult, None, Some, length};
 
-use crate::choice::InspectionKind;
-use crate::one_field::{amount_field, inspection_field, letter_field, number_field};
+use crate::one_field::FromField;
 use calls::Refusal;
 use std::marker::Model;
 
@@ -33,76 +31,45 @@ impl<'a> Model for Fields<'a> {
     ghost invariant = { λ f. f.next + length (left (option_map (λ x. x.now) f.unread)) ≤ 100 };
 }
 
-// A rule of the project: a field is read into an `Option`, which `let else` takes apart, and each failure names its field. The four
-// readers stand apart, since one over a closure would say in its contract what the closure lends of the line.
 impl<'a> Fields<'a> {
-    // All fields of the line, or the refusal of a line that is too long.
+    // The letter of the line and the fields after it. A line that is too long has no letter.
     #[tactic(auto, using(crate::proofs::Endings::length_fields))]
-    pub(crate) fn of_line(line: &'a [u8]) -> Result<Fields<'a>, Refusal>
-        ensures { MatchResult result (λ f. (length line.now ≤ LONGEST) × (f ≡ whole_line line.now)) (λ e. (LONGEST < length line.now) × (e ≡ Refusal.Malformed 1)) }
+    pub(crate) fn lettered(line: &'a [u8]) -> Result<(char, Fields<'a>), Refusal>
+        ensures { MatchResult result (λ p. (lettered line.now ≡ Some (p.0, p.1.fields)) × (p.1.next ≡ 2)) (λ e. (lettered line.now ≡ None) × (e ≡ Refusal.Malformed 1)) }
     {
         if line.len() > LONGEST {
             return Err(Refusal::Malformed { field: 1 });
         }
-        Ok(Fields {
+        let mut fields = Fields {
             unread: Some(line),
             next: 1,
-        })
+        };
+        let letter = fields.next()?;
+        Ok((letter, fields))
     }
 
-    // The next field, a number.
-    pub(crate) fn number(&mut self) -> Result<u32, Refusal>
-        ensures { Took number_of self.old self.new result }
+    // What the next field writes. A rule of the project: the field is read into an `Option`, which `let else` takes apart, and the
+    // failure names the field.
+    pub(crate) fn next<T: FromField>(&mut self) -> Result<T, Refusal>
+        ensures { Took T.written self.old self.new result }
     {
-        let Some((number, after)) = number_field(self.unread) else {
+        let Some((value, after)) = T::from_first(self.unread) else {
             return Err(self.malformed());
         };
-        self.go_on(after);
-        Ok(number)
+        self.unread = after;
+        self.next += 1;
+        Ok(value)
     }
 
-    // The next field, a letter.
-    pub(crate) fn letter(&mut self) -> Result<char, Refusal>
-        ensures { Took one_byte self.old self.new result }
-    {
-        let Some((letter, after)) = letter_field(self.unread) else {
-            return Err(self.malformed());
-        };
-        self.go_on(after);
-        Ok(letter)
-    }
-
-    // The next field, a number or a hyphen.
-    pub(crate) fn amount(&mut self) -> Result<Option<u32>, Refusal>
-        ensures { Took amount self.old self.new result }
-    {
-        let Some((amount, after)) = amount_field(self.unread) else {
-            return Err(self.malformed());
-        };
-        self.go_on(after);
-        Ok(amount)
-    }
-
-    // The next field, an inspection.
-    pub(crate) fn inspection(&mut self) -> Result<InspectionKind, Refusal>
-        ensures { Took inspection self.old self.new result }
-    {
-        let Some((inspection, after)) = inspection_field(self.unread) else {
-            return Err(self.malformed());
-        };
-        self.go_on(after);
-        Ok(inspection)
-    }
-
-    // The end of the line, where no field is left.
+    // What was read of the whole line, where no field is left.
     #[tactic(auto, using(crate::proofs::Endings::ended_more))]
-    pub(crate) fn end(self) -> Result<(), Refusal>
-        ensures { result ≡ ended self.entry.next self.entry.fields tt }
+    pub(crate) fn end<T: Drop>(self, read: T) -> Result<T, Refusal>
+        ensures { result ≡ ended self.entry.next self.entry.fields read }
     {
         if self.unread.is_some() {
             return Err(self.malformed());
         }
-        Ok(())
+        Ok(read)
     }
 
     // The next field is missing, wrong or too many.
@@ -110,14 +77,5 @@ impl<'a> Fields<'a> {
         ensures { result ≡ Refusal.Malformed self.now.next }
     {
         Refusal::Malformed { field: self.next }
-    }
-
-    // One field is read, and these come after it.
-    fn go_on(&mut self, after: Option<&'a [u8]>)
-        requires { length (left (option_map (λ x. x.now) after)) < length self.old.fields }
-        ensures { self.new ≡ record { fields = left (option_map (λ x. x.now) after.entry); next = self.old.next + 1 } }
-    {
-        self.unread = after;
-        self.next += 1;
     }
 }

@@ -1,7 +1,7 @@
 // A line that comes byte by byte.
 ghost use Rattle.shift_text.specs.Buffers.{Fed, GoesOn, Holds};
 ghost use Rattle.shift_text.specs.Lines.{kept as first_bytes};
-ghost use Rattle.std.specs.Prelude.{◌≡◌, ◌==◌, ◌≤◌, [], ◌∷◌, ◌++◌, length, position};
+ghost use Rattle.std.specs.Prelude.{◌≡◌, ◌==◌, ◌+◌, ◌≤◌, [], ◌∷◌, ◌++◌, drop, length, position};
 
 use crate::fields::LONGEST;
 use std::marker::Model;
@@ -10,7 +10,7 @@ use std::marker::Model;
 const KEPT: usize = LONGEST + 1;
 
 // The line that is being read. Of a longer line the first bytes are kept, which say what the whole line says.
-// They lie in an array, since the program asks for memory only when it opens.
+// They lie in an array: `new` takes no allocator and cannot fail, and a line can be copied.
 #[derive(Clone, Copy)]
 pub struct LineBuffer {
     bytes: [u8; KEPT],
@@ -58,6 +58,7 @@ impl LineBuffer {
     pub fn bytes(&self) -> &[u8]
         ensures content { result.now ≡ self.now.kept }
         ensures few { length result.now ≤ 81 }
+        ensures room { length self.now.kept + length self.now.beyond ≡ 81 }
     {
         &self.bytes[..self.used]
     }
@@ -66,6 +67,7 @@ impl LineBuffer {
     pub fn push(&mut self, byte: u8)
         ensures pushed { self.new.kept ≡ first_bytes (self.old.kept ++ byte ∷ []) }
         ensures goes_on { GoesOn self.old.kept self.new.kept (byte ∷ []) }
+        ensures beyond { self.new.beyond ≡ drop 1 self.old.beyond }
     {
         self.append(&[byte]);
     }
@@ -91,7 +93,8 @@ impl LineBuffer {
     // The bytes go behind those of the line, as many as there is room for.
     #[tactic(auto, using(crate::proofs::Keeping::appended))]
     fn append(&mut self, bytes: &[u8])
-        ensures { self.new.kept ≡ first_bytes (self.old.kept ++ bytes.now) }
+        ensures kept { self.new.kept ≡ first_bytes (self.old.kept ++ bytes.now) }
+        ensures beyond { self.new.beyond ≡ drop (length bytes.now) self.old.beyond }
     {
         let room = bytes.len().min(KEPT - self.used);
         self.bytes[self.used..self.used + room].copy_from_slice(&bytes[..room]);

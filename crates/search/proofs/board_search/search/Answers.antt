@@ -1,39 +1,12 @@
 use Rattle.std.proofs.Common.{◌++◌, drop, refl, inl, inr, ap, ◌∙◌, arith}
 use Rattle.std.proofs.lemmas.List.{take-append-drop}
 use Rattle.schedules.specs.World.{World, world_at}
-use Rattle.search.proofs.Exact.{all_kept, late_found}
+use Rattle.search.proofs.Exact.{found}
 use Rattle.search.proofs.Sweeping.{swept}
 use Rattle.search.proofs.board_search.search.Goals as goal
 
-pub returns-in-Some-late : goal.returns-in-Some-late
-returns-in-Some-late g c =
-    let m = g.R.Rule.model c.args.rule.now in
-    let V = g.I.Inspection.verdict c.args.inspection.now in
-    let bounded = g.met.I.Inspection.bounded c.args.inspection.now in
-    let w : World = world_at c.args.moment c.args.waiting.now in
-    let fit = c.if-not-is_fit.ensures in
-    let distinct = c.if-not-are_all_distinct.ensures in
-    let found = c.in-Some-late.ensures in
-    let room = c.in-Some.ensures.cases.enough in
-    inr (
-      λ out. out fit,
-      inr (
-        λ same. same distinct,
-        inr (
-          λ short. omega (arith, room),
-          inr (
-            λ few. omega (arith, c.jobs_on.ensures),
-            (
-              swept c.args.table.now c.first_late_of_board-late.new.work c.fill.new.self (omega arith) (c.fill.ensures.after (λ y e. e)),
-              inr (c.in-Some-late.ticket, refl, late_found m V bounded w fit distinct c.in-Some-late.ticket found.0 c.args.finishes.now c.first_late_of_board-late.new.finishes found.1),
-            ),
-          ),
-        ),
-      ),
-    )
-
-pub returns-in-None : goal.returns-in-None
-returns-in-None g c =
+pub returns : goal.returns
+returns g c =
     let m = g.R.Rule.model c.args.rule.now in
     let V = g.I.Inspection.verdict c.args.inspection.now in
     let bounded = g.met.I.Inspection.bounded c.args.inspection.now in
@@ -50,8 +23,8 @@ returns-in-None g c =
           inr (
             λ few. omega (arith, c.jobs_on.ensures),
             (
-              swept c.args.table.now c.first_late_of_board-late.new.work c.fill.new.self (omega arith) (c.fill.ensures.after (λ y e. e)),
-              inl (refl, all_kept m V bounded w fit distinct c.args.finishes.now c.first_late_of_board-late.new.finishes c.in-None.ensures),
+              swept c.args.table.now c.first_late_of_board-found.new.work c.fill.new.self (omega arith) (c.fill.ensures.after (λ y e. e)),
+              found m V bounded w fit distinct c.args.finishes.now c.first_late_of_board-found.new.finishes c.first_late_of_board-found.result c.first_late_of_board-found.ensures,
             ),
           ),
         ),

@@ -2,11 +2,5 @@ use Rattle.std.proofs.Common.{rules}
 use Rattle.shift_text.proofs.OpeningRead.{opening_read}
 use Rattle.shift_text.proofs.opening.read_opening.Goals as goal
 
-pub returns-in_err-fields-clause-text : goal.returns-in_err-fields-clause-text
-returns-in_err-fields-clause-text c = opening_read _ _ (search rules)
-
-pub returns-in_err-letter-clause-text : goal.returns-in_err-letter-clause-text
-returns-in_err-letter-clause-text c = opening_read _ _ (search rules)
-
 pub returns-clause-text : goal.returns-clause-text
 returns-clause-text c = opening_read _ _ (search rules)

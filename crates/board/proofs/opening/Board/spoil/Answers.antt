@@ -5,4 +5,4 @@ pub returns-clause-seen : goal.returns-clause-seen
 returns-clause-seen g c =
     let model = g.R.Rule.model c.args.self.now.rule in
     spoil_seen model (g.met.R.Rule.lawful c.args.self.now.rule) _ _
-    (ended_spoiled model _ _ _ _ c.after_spoiled-state.ensures c.ok_or.ensures.value c.end_in.ensures.quarter)
+    (ended_spoiled model _ _ _ _ c.after_spoiled-next.ensures c.ok_or.ensures.value c.end_in.ensures.quarter)

@@ -1,4 +1,5 @@
-use Rattle.std.proofs.Common.{◌≡◌, length, subst, arith}
+use Rattle.std.proofs.Common.{◌≡◌, length, get_or, refl, subst, arith}
+use Rattle.schedules.specs.World.{nobody}
 use Rattle.search.proofs.Sequencing.{before_more, late_clean, late_hit}
 use Rattle.search.proofs.judge.Judge.first_late.Goals as goal
 use Rattle.search.specs.Sequences.{Judged, finish_of}
@@ -17,7 +18,9 @@ loop-place-preserved g c = (
 
 pub returns-in_default : goal.returns-in_default
 returns-in_default g c s0 c0 F small path front = (
+  (get_or c.args.waiting.now c.loop-place.place nobody).ticket,
   c.loop-place.place,
+  refl,
   late_clean (g.R.Rule.model c.args.self.now.clean.rule.now) (g.I.Inspection.verdict c.args.self.now.inspection.now) s0 c0 F c.args.waiting.now c.args.finishes.now (g.met.R.Rule.lawful c.args.self.now.clean.rule.now) (g.met.I.Inspection.bounded c.args.self.now.inspection.now) small
       c.loop-place.place c.loop-place.row c.loop-place.finishes c.loop-place.path.time c.loop-place.path.state (omega arith) (c.loop-place.invariant.1 s0 c0 F small path front)
       c.in_default.ensures,
@@ -25,7 +28,9 @@ returns-in_default g c s0 c0 F small path front = (
 
 pub returns-then-go_through : goal.returns-then-go_through
 returns-then-go_through g c s0 c0 F small path front = (
+  (get_or c.args.waiting.now c.loop-place.place nobody).ticket,
   c.loop-place.place,
+  refl,
   late_hit (g.R.Rule.model c.args.self.now.clean.rule.now) (g.I.Inspection.verdict c.args.self.now.inspection.now) s0 c0 F c.args.waiting.now c.args.finishes.now (g.met.R.Rule.lawful c.args.self.now.clean.rule.now) (g.met.I.Inspection.bounded c.args.self.now.inspection.now) small
       c.loop-place.place c.loop-place.row c.loop-place.finishes c.loop-place.path.time c.loop-place.path.state (omega arith) (c.loop-place.invariant.1 s0 c0 F small path front)
       c.begin_waiting.new.row c.begin_waiting.new.finish c.in-Some.next.time c.in-Some.next.state c.in-Some.ensures.0 c.if-go_through.ensures,

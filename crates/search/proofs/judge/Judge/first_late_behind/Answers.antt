@@ -1,4 +1,5 @@
-use Rattle.std.proofs.Common.{ℕ, ◌<◌, List, set, Some, arith}
+use Rattle.std.proofs.Common.{ℕ, ◌<◌, List, set, Some, Err, arith}
+use Rattle.calls.specs.declared.refusal.Refusal.TheVariants.{Late}
 use Rattle.schedules.specs.Foreseen.{free}
 use Rattle.schedules.specs.World.{World}
 use Rattle.search.proofs.Boards.{judges_first, judges_machine, judges_run}
@@ -13,7 +14,7 @@ returns-in_default g c =
     let m = g.R.Rule.model c.args.self.now.clean.rule.now in
     let V = g.I.Inspection.verdict c.args.self.now.inspection.now in
     let w : World = record { clock = c.args.moment.clock; state = c.args.moment.state; machine = Some c.args.run; waiting = c.args.waiting.now } in
-    judges_machine m V c.args.moment.clock c.args.moment.state c.args.moment.machine c.args.run c.args.waiting.now c.args.finishes.now c.args.finishes.now (Some c.args.run.job.ticket) c.requires.machine
+    judges_machine m V c.args.moment.clock c.args.moment.state c.args.moment.machine c.args.run c.args.waiting.now c.args.finishes.now c.args.finishes.now (Err (Late c.args.run.job.ticket)) c.requires.machine
     (judges_first m c.args.moment.state c.args.moment.clock (board_finish V w) c.args.run.job c.args.waiting.now c.args.finishes.now c.in_default.ensures)
 
 pub returns-then-go_through : goal.returns-then-go_through
@@ -21,7 +22,7 @@ returns-then-go_through g c =
     let m = g.R.Rule.model c.args.self.now.clean.rule.now in
     let V = g.I.Inspection.verdict c.args.self.now.inspection.now in
     let w : World = record { clock = c.args.moment.clock; state = c.args.moment.state; machine = Some c.args.run; waiting = c.args.waiting.now } in
-    judges_machine m V c.args.moment.clock c.args.moment.state c.args.moment.machine c.args.run c.args.waiting.now c.args.finishes.now c.args.finishes.now (Some c.args.run.job.ticket) c.requires.machine
+    judges_machine m V c.args.moment.clock c.args.moment.state c.args.moment.machine c.args.run c.args.waiting.now c.args.finishes.now c.args.finishes.now (Err (Late c.args.run.job.ticket)) c.requires.machine
     (judges_first m c.args.moment.state c.args.moment.clock (board_finish V w) c.args.run.job c.args.waiting.now c.args.finishes.now
     (c.if-go_through.ensures c.args.moment.state c.args.moment.clock (free V c.args.moment.clock (Some c.args.run)) c.in-Some.ensures.2))
 

@@ -1,9 +1,9 @@
-use Rattle.std.proofs.Common.{◌≡◌, ℕ, ◌+◌, ◌-◌, ◌≤◌, get_or, take, refl, subst, arith, length-take}
+use Rattle.std.proofs.Common.{◌≡◌, ℕ, ◌+◌, ◌-◌, get_or, take, refl, subst, arith, length-take}
 use Rattle.std.proofs.lemmas.List.{get_or-take}
 use Rattle.search.proofs.RoundStates.{ran_more, ran_skip}
 use Rattle.search.specs.Rounds.{Ran}
 use Rattle.search.proofs.judge.Judge.round.Goals as goal
-use Rattle.search.proofs.judge.Judge.round.Goals.{else-latest-gt0, then-latest-gt0+else-start-task}
+use Rattle.search.proofs.judge.Judge.round.Goals.{else-latest-gt0-via-else-latest-gt0, else-latest-gt0-via-then-latest-gt0+else-run_from}
 
 pub loop-state-preserved : goal.loop-state-preserved
 loop-state-preserved g c =
@@ -13,13 +13,13 @@ loop-state-preserved g c =
     let n = c.loop-state.state in
     let t : ℕ = get_or (take c.size.result c.args.starts.now) n 0 - 1 in
     let same = get_or-take c.size.result c.args.starts.now n 0 (omega arith) in
-    elim c.if-latest-gt0.branch [
-      | then-latest-gt0+else-start-task w ↦
+    elim c.else-latest-gt0.branch [
+      | else-latest-gt0-via-then-latest-gt0+else-run_from w ↦
           let i : get_or c.args.starts.now n 0 ≡ t + 1 = omega (arith, same, w.if-latest-gt0.true) in
-          let d : t + p ≤ c.args.task.due = omega (arith, w.if-start-task.false) in
-          simp (w.next-is, w.finish-is) (ran_more m V p c.args.task.due c.args.starts.now n t _ _ _ _ _ _ _ _ i d
-          w.keep_hits.ensures w.after_cleans-end.ensures.leads refl w.keep.ensures c.loop-state.invariant)
-      | else-latest-gt0 w ↦
+          let ran = w.if-run_from.ensures in
+          simp (w.next-is, w.finish-is) (ran_more m V p c.args.task.due c.args.starts.now n t _ _ _ _ _ _ _ _ i ran.0
+          ran.2 refl refl ran.1 c.loop-state.invariant)
+      | else-latest-gt0-via-else-latest-gt0 w ↦
           let z : get_or c.args.starts.now n 0 ≡ 0 = omega (arith, same, w.if-latest-gt0.false) in
           simp (w.next-is, w.finish-is) (ran_skip m V p c.args.task.due c.args.starts.now n _ _ _ _ z c.loop-state.invariant)
     ]

@@ -1,6 +1,6 @@
 use Rattle.std.proofs.Common.{ap, ◌∙◌}
 use Rattle.shift_text.proofs.Splitting.{longest_none}
-use Rattle.shift_text.proofs.one_field.number_field.Goals as goal
+use Rattle.shift_text.proofs.one_field.U32FromField.from_first.Goals as goal
 use Rattle.shift_text.specs.Fields.{first, left, number}
 use Rattle.std.specs.Option.{option_map}
 
