@@ -54,6 +54,8 @@ fn first_late_of_board<'a, R: Rule, I: Inspection>(
     }
 }
 
+// The waiting jobs are the caller's slice, so they stand beside the moment.
+//
 // Searches the board at this moment with these jobs waiting, each started as soon as its release, the job before it and the clock permit. Where no list of faults that
 // the rule still allows makes a job late, `finishes` begins with the worst finish of each job, the one on the machine first; else the first job that can be late is named,
 // and `finishes` begins with the worst finishes of those before it.
@@ -73,6 +75,7 @@ pub fn search<R: Rule, I: Inspection>(
     if !are_all_distinct(&moment.machine, waiting) {
         return Err(Refusal::TicketTaken);
     }
+    // no `ok_or` and `?`: a proof reads here what is promised of the table's part
     let Some(work) = table.first_chunk_mut::<TABLE>() else {
         return Err(Refusal::TableTooShort);
     };

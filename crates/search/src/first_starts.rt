@@ -13,7 +13,7 @@ use calls::Job;
 use inspections::Inspection;
 use rules::Rule;
 
-// The path without further faults: the time at which the machine becomes free, and the state of the rule then.
+// Where the path without further faults comes to: a time, and the state of the rule then.
 #[derive(Clone, Copy)]
 pub(crate) struct Faultless {
     pub time: u32,
@@ -83,21 +83,20 @@ impl<R: Rule, I: Inspection> Judge<'_, R, I> {
         &self,
         quarters: u32,
         wait: u32,
-        clock: u32,
-        state: u32,
+        now: Faultless,
         row: &mut Row,
         finish: &mut Row,
     ) -> Faultless
         requires quarters { quarters < 128 }
         requires wait { wait < 128 }
-        requires clock { clock ≤ 4096 }
-        requires state { state < (R.Rule.model self.now.clean.rule.now).size }
-        ensures path { (V : Verdict) → Bounded V → Path (R.Rule.model self.now.clean.rule.now) state clock (completion V quarters (clock + wait)) result.time result.state }
+        requires clock { now.time ≤ 4096 }
+        requires state { now.state < (R.Rule.model self.now.clean.rule.now).size }
+        ensures path { (V : Verdict) → Bounded V → Path (R.Rule.model self.now.clean.rule.now) now.state now.time (completion V quarters (now.time + wait)) result.time result.state }
         ensures inside { result.state < (R.Rule.model self.now.clean.rule.now).size }
-        ensures begun { (V : Verdict) (due : ℕ) → Bounded V → Begun (R.Rule.model self.now.clean.rule.now) V state clock (completion V quarters (clock + wait)) quarters due row.new finish.new }
+        ensures begun { (V : Verdict) (due : ℕ) → Bounded V → Begun (R.Rule.model self.now.clean.rule.now) V now.state now.time (completion V quarters (now.time + wait)) quarters due row.new finish.new }
     {
-        let start = clock + wait;
-        let again = self.clean.after_cleans(state, wait);
+        let start = now.time + wait;
+        let again = self.clean.after_cleans(now.state, wait);
         clear(row);
         keep(row, again, start);
         clear(finish);

@@ -13,6 +13,7 @@ use inspections::Inspection;
 use rules::Rule;
 
 // The three rows are parameters: as fields they would be `&mut`s, and each contract would say that they are the same references still.
+// Late or not is a plain yes or no: no value goes with it, and the rows have the rest.
 impl<R: Rule, I: Inspection> Judge<'_, R, I> {
     // Whether the job can be late, which begins as `row` and `finish` have it. If it cannot, `row` has then how it can end.
     pub(crate) fn go_through(
@@ -36,6 +37,8 @@ impl<R: Rule, I: Inspection> Judge<'_, R, I> {
         false
     }
 
+    // It writes at the place of an `enumerate`: of a zipped `iter_mut` std tells a proof nothing.
+    //
     // Names the first of the waiting jobs that can be late, if there is one, on a machine that becomes free as `row` has it and on this path. The worst finishes of the jobs before
     // it, or of all, go into `finishes`.
     pub(crate) fn first_late(

@@ -17,25 +17,24 @@ use rules::Rule;
 use schedules::{Moment, Run};
 
 impl<R: Rule, I: Inspection> Judge<'_, R, I> {
-    // How the job on the machine goes on, at this clock in this state, and the path after it; or `None` where it is late already.
+    // How the job on the machine goes on from now, and the path after it; or `None` where it is late already.
     fn begin_machine(
         &self,
-        clock: u32,
-        state: u32,
+        now: Faultless,
         run: Run,
         row: &mut Row,
         finish: &mut Row,
     ) -> Option<Faultless>
-        requires clock { clock ≤ 4096 }
-        requires state { state < (R.Rule.model self.now.clean.rule.now).size }
-        requires run { RunRight clock (Some run) }
+        requires clock { now.time ≤ 4096 }
+        requires state { now.state < (R.Rule.model self.now.clean.rule.now).size }
+        requires run { RunRight now.time (Some run) }
         requires job { Searchable run.job }
-        ensures { let m = R.Rule.model self.now.clean.rule.now in let V = I.Inspection.verdict self.now.inspection.now in MatchOption result (CanPass m state clock (free V clock (Some run)) run.job.due) (λ path. Resumes m V state clock (free V clock (Some run)) run.job row.new finish.new path.time path.state) }
+        ensures { let m = R.Rule.model self.now.clean.rule.now in let V = I.Inspection.verdict self.now.inspection.now in MatchOption result (CanPass m now.state now.time (free V now.time (Some run)) run.job.due) (λ path. Resumes m V now.state now.time (free V now.time (Some run)) run.job row.new finish.new path.time path.state) }
     {
         let quarters = run.job.length;
         match run.hit {
             None => {
-                let begun = clock - run.gone;
+                let begun = now.time - run.gone;
                 if begun + quarters > run.job.due {
                     return None;
                 }
@@ -44,14 +43,15 @@ impl<R: Rule, I: Inspection> Judge<'_, R, I> {
                     gone: run.gone,
                     begun,
                 };
-                Some(self.begin_unhit(underway, state, row, finish))
+                Some(self.begin_unhit(underway, now.state, row, finish))
             }
             Some(given_up) => {
-                Some(self.begin_hit(quarters, given_up - run.gone, clock, state, row, finish))
+                Some(self.begin_hit(quarters, given_up - run.gone, now, row, finish))
             }
         }
     }
 
+    // The run is the moment's own, which the caller has matched: a clause says so, where a match here would have a case that cannot be.
     // Names the first job that can be late, if there is one: the one on the machine or one behind it. The worst finishes of the jobs before it, or of all, go into `finishes`.
     pub(crate) fn first_late_behind(
         &self,
@@ -70,7 +70,12 @@ impl<R: Rule, I: Inspection> Judge<'_, R, I> {
     {
         let job = run.job;
         let late = Refusal::Late { ticket: job.ticket };
-        let Some(path) = self.begin_machine(moment.clock, moment.state, run, row, finish) else {
+        let now = Faultless {
+            time: moment.clock,
+            state: moment.state,
+        };
+        // no `ok_or` and `?`: a proof reads here what is promised of the path
+        let Some(path) = self.begin_machine(now, run, row, finish) else {
             return Err(late);
         };
         if self.go_through(job, row, done, finish) {

@@ -21,7 +21,8 @@ fn one_clean<R: Rule>(rule: &R, row: &mut Row)
     }
 }
 
-// One row more: from each state on to where the row before leads, and from there on once more.
+// One row more: from each state on to where the row before leads, and from there on once more. It writes at the place of an `enumerate`:
+// of a zipped `iter_mut` std tells a proof nothing.
 fn twice_as_many<R: Rule>(rule: &R, before: &Row, row: &mut Row)
     requires { (k : ℕ) × Leads (R.Rule.model rule.now) k before.now }
     ensures { (k : ℕ) → Leads (R.Rule.model rule.now) k before.now → Leads (R.Rule.model rule.now) (k + 1) row.new }

@@ -11,6 +11,7 @@ use crate::runs::Task;
 use inspections::Inspection;
 use rules::Rule;
 
+// Late or not is a plain yes or no: no value goes with it, and the rows have the rest.
 impl<R: Rule, I: Inspection> Judge<'_, R, I> {
     // Whether one of the runs would end after the due quarter, were it clean. If none would, `next` gains how they are given up
     // and `finish` how they end.

@@ -33,6 +33,8 @@ pub(crate) fn clear(row: &mut Row)
     row.fill(0);
 }
 
+// Below, `states` is how many states the rule has: that it is no more than a row has cells is a clause, since a row knows of no rule.
+
 // Which way a sweep goes.
 #[derive(Clone, Copy)]
 pub(crate) enum Way {

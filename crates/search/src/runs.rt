@@ -29,6 +29,7 @@ impl Task {
     }
 }
 
+// Late or not is a plain yes or no: no value goes with it, and the rows have the rest.
 impl<R: Rule, I: Inspection> Judge<'_, R, I> {
     // Whether the run that starts then in this state would end after the due quarter, were it clean. If not, `finish` gains its clean end and `next` how it is given up.
     pub(crate) fn run_from(

@@ -14,14 +14,3 @@ returns-in_err-ahead c =
     let one = get_or-between row from c.args.states k 0 (omega arith) in
     let two = get_or-between done from c.args.states k 0 (omega arith) in
     c.in_err-ahead.ensures k (omega arith) (simp (one, two, there) p))
-
-pub returns : goal.returns
-returns c =
-    let row = c.args.row.now in
-    let done = c.args.done.now in
-    let from = c.args.from in
-    let found = c.in_ok-ahead.ensures in
-    let long = length-between row from c.args.states (omega arith) in
-    let one = get_or-between row from c.args.states c.in_ok-ahead.ahead 0 (omega arith) in
-    let two = get_or-between done from c.args.states c.in_ok-ahead.ahead 0 (omega arith) in
-    (omega arith, omega (arith, found.1))

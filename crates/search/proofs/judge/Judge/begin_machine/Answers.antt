@@ -11,10 +11,10 @@ returns-else-begun-quarters g c =
     let V = g.I.Inspection.verdict c.args.self.now.inspection.now in
     let job = c.args.run.job in
     let gone = c.args.run.gone in
-    let clock = c.args.clock in
+    let clock = c.args.now.time in
     let same : clock - gone + gone ≡ clock = omega arith in
-    subst⁻¹ (λ h. Resumes m V c.args.state clock (completion V job.length (begun_at clock gone h)) job c.begin_unhit.new.row c.begin_unhit.new.finish c.begin_unhit.result.time c.begin_unhit.result.state) c.in-None.is
-    (subst (λ n. Resumes m V c.args.state n (completion V job.length (clock - gone)) job c.begin_unhit.new.row c.begin_unhit.new.finish c.begin_unhit.result.time c.begin_unhit.result.state) same
+    subst⁻¹ (λ h. Resumes m V c.args.now.state clock (completion V job.length (begun_at clock gone h)) job c.begin_unhit.new.row c.begin_unhit.new.finish c.begin_unhit.result.time c.begin_unhit.result.state) c.in-None.is
+    (subst (λ n. Resumes m V c.args.now.state n (completion V job.length (clock - gone)) job c.begin_unhit.new.row c.begin_unhit.new.finish c.begin_unhit.result.time c.begin_unhit.result.state) same
     (c.begin_unhit.ensures.path, c.begin_unhit.ensures.inside, c.begin_unhit.ensures.begun job.due c.if-begun-quarters.false))
 
 pub returns-in-Some : goal.returns-in-Some
@@ -23,5 +23,5 @@ returns-in-Some g c =
     let V = g.I.Inspection.verdict c.args.self.now.inspection.now in
     let bounded = g.met.I.Inspection.bounded c.args.self.now.inspection.now in
     let job = c.args.run.job in
-    subst⁻¹ (λ h. Resumes m V c.args.state c.args.clock (completion V job.length (begun_at c.args.clock c.args.run.gone h)) job c.begin_hit.new.row c.begin_hit.new.finish c.begin_hit.result.time c.begin_hit.result.state) c.in-Some.is
+    subst⁻¹ (λ h. Resumes m V c.args.now.state c.args.now.time (completion V job.length (begun_at c.args.now.time c.args.run.gone h)) job c.begin_hit.new.row c.begin_hit.new.finish c.begin_hit.result.time c.begin_hit.result.state) c.in-Some.is
     (c.begin_hit.ensures.path V bounded, c.begin_hit.ensures.inside, c.begin_hit.ensures.begun V job.due bounded)

@@ -9,14 +9,6 @@ use Rattle.search.specs.Rows.{In}
 use Rattle.search.specs.Sequences.{board_finish}
 use Rattle.std.proofs.lemmas.List.{take_rest}
 
-pub returns-in_default : goal.returns-in_default
-returns-in_default g c =
-    let m = g.R.Rule.model c.args.self.now.clean.rule.now in
-    let V = g.I.Inspection.verdict c.args.self.now.inspection.now in
-    let w : World = record { clock = c.args.moment.clock; state = c.args.moment.state; machine = Some c.args.run; waiting = c.args.waiting.now } in
-    judges_machine m V c.args.moment.clock c.args.moment.state c.args.moment.machine c.args.run c.args.waiting.now c.args.finishes.now c.args.finishes.now (Err (Late c.args.run.job.ticket)) c.requires.machine
-    (judges_first m c.args.moment.state c.args.moment.clock (board_finish V w) c.args.run.job c.args.waiting.now c.args.finishes.now c.in_default.ensures)
-
 pub returns-then-go_through : goal.returns-then-go_through
 returns-then-go_through g c =
     let m = g.R.Rule.model c.args.self.now.clean.rule.now in
