@@ -63,11 +63,11 @@ module _ (m : Model) (V : Verdict) (bounded : Bounded V) (w : World) (fit : Fit 
     rest = judged.rest;
   }
 
-  all_kept : (old new : List ℕ) → Judged m w.state w.clock (board_finish V w) (board w) (length (board w)) old new → AllKept m V w old new
+  pub all_kept : (old new : List ℕ) → Judged m w.state w.clock (board_finish V w) (board w) (length (board w)) old new → AllKept m V w old new
   all_kept old new judged =
       let kept = kept_from (length (board w)) old new (omega arith) judged in (none_any (CanBeLate m V w) nobody (board w) kept.on_time, kept)
 
-  late_found : (t n : ℕ) (old new : List ℕ) → LateAt m w.state w.clock (board_finish V w) (board w) old new t n → LateFrom m V w t old new
+  pub late_found : (t n : ℕ) (old new : List ℕ) → LateAt m w.state w.clock (board_finish V w) (board w) old new t n → LateFrom m V w t old new
   late_found t n old new late =
       let kept = kept_from n old new (omega (arith, late.within)) late.before in (
         first_at (CanBeLate m V w) (λ j. j.ticket ≡ t) nobody (board w) n late.within (late_from n late.within late.late) (sym late.ticket) kept.on_time,

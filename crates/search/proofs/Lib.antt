@@ -11,5 +11,6 @@ pub mod Sequencing
 pub mod Boards
 pub mod Exact
 pub mod Sweeping
+pub mod Distinct
 pub mod RoundStates
 pub mod RoundGoing

@@ -63,16 +63,16 @@ fn has_ticket(jobs: &[Job], ticket: u32) -> bool
     jobs.iter().any(|job| job.ticket == ticket)
 }
 
-// Whether no two of the jobs have the same ticket.
+// Whether no two of the jobs have the same ticket. Each is compared with those behind it, from the last one on: a ticket that repeats
+// among the last jobs is found at once, however many there are. By index, since std has no lemma of an `enumerate` that is gone
+// through from the back.
 fn are_distinct(jobs: &[Job]) -> bool
     ensures { MatchBool result (Distinct jobs.now) (Distinct jobs.now → ⊥) }
 {
-    let mut left = jobs;
-    while let [job, rest @ ..] = left {
-        if has_ticket(rest, job.ticket) {
+    for place in (0..jobs.len()).rev() {
+        if has_ticket(&jobs[place + 1..], jobs[place].ticket) {
             return false;
         }
-        left = rest;
     }
     true
 }

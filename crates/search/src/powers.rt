@@ -10,13 +10,13 @@ use std::alloc::AllocError;
 // So many rows reach past the longest run.
 pub(crate) const POWERS: usize = 7;
 
-// The first row: one clean quarter.
+// The first row: one clean quarter, of each state that the rule has.
 fn one_clean<R: Rule>(rule: &R, row: &mut Row)
     ensures { Leads (R.Rule.model rule.now) 0 row.new }
 {
-    for (state, next) in row.iter_mut().enumerate() {
-        if let Some(after) = rule.after_clean(state as u32) {
-            *next = after;
+    for state in 0..rule.size() {
+        if let Some(after) = rule.after_clean(state) {
+            row[state as usize] = after;
         }
     }
 }

@@ -1,9 +1,6 @@
-use Rattle.std.proofs.Common.{◌↔◌, length}
+use Rattle.std.proofs.Common.{drop}
 use Rattle.schedules.specs.World.{Distinct}
 use Rattle.search.proofs.fits.are_distinct.Given as goal
 
-abbrev pub invariant-loop-left : goal.invariant-loop-left
-invariant-loop-left l = Distinct l.left ↔ Distinct l.jobs
-
-abbrev pub decreases-loop-left : goal.decreases-loop-left
-decreases-loop-left l = length l.left
+abbrev pub invariant-loop-place : goal.invariant-loop-place
+invariant-loop-place l = Distinct (drop l.place l.jobs)
