@@ -1,20 +1,16 @@
 -- More bytes of a line, of which the first 81 are kept.
-use Rattle.std.proofs.Common.{◌≡◌, ℕ, ◌+◌, ◌-◌, ◌≤◌, Bool, eqb, ltb, List, ◌++◌, length, get_or, min, take, Some, None, Option, sym, ap, ◌∙◌, inl, inr, arith, length-take, drop, drop-drop}
-use Rattle.shift_text.specs.Buffers.{Fed, GoesOn}
+use Rattle.std.proofs.Common.{◌≡◌, ℕ, ◌+◌, ◌-◌, ◌<◌, ◌≤◌, ◌≢◌, Bool, eqb, ltb, List, [], ◌∷◌, ◌++◌, length, get_or, min, set, take, Some, None, Option, sym, ap, ◌∙◌, inl, inr, append_assoc, arith, length-append, length-take, drop, drop-drop}
+use Rattle.shift_text.specs.Buffers.{Fed, FeedAt, GoesOn, before_feed}
 use Rattle.shift_text.specs.Lines.{kept}
 use Rattle.std.proofs.Math.Nat.{min_comm}
 use Rattle.std.proofs.Math.Seq.{take-append-add}
 use Rattle.std.proofs.lemmas.Bool.{cases_lt, cond-true, eqb-true, lt-ltb}
 use Rattle.std.proofs.lemmas.Bool.Decides.{nat_tests}
-use Rattle.std.proofs.lemmas.List.{take-append-le, take-take, take_all, take_min}
+use Rattle.std.proofs.lemmas.List.{drop-set-lt, get_or-drop, get_or-take, length-drop, take-append-le, take-take, take_all, take_min, take_more, take_more_set}
 use Rattle.std.proofs.lemmas.List.Quantifiers.{position-Some}
 use Rattle.std.proofs.lemmas.List.Sums.{fails_before_first}
 use Rattle.std.proofs.lemmas.Option.{none-some}
-use Rattle.std.proofs.Math.ListN.{drop_of_length-le}
-use Rattle.std.proofs.lemmas.Slice.{drop-put_mid, take-put_mid}
-use borrow.Rule.Slice.PartMut.{put_mid}
 use Rattle.std.specs.List.{position, position_or_len}
-use Rattle.std.specs.Option.{unwrap_or}
 
 -- what is kept of the kept bytes and more is what is kept of the whole line and more
 kept_append : (line bs : List ℕ) → kept (kept line ++ bs) ≡ kept (line ++ bs)
@@ -38,33 +34,64 @@ with_room b bs room all =
     ∙ sym (take-append-add b bs room)
     ∙ ap (λ n. take n (b ++ bs)) whole
 
--- The first `used` of the 81 places are in use, and then `room` more, in which as many bytes stand.
-pub appended : (xs ys bs : List ℕ) (used room k : ℕ) → length xs ≡ 81 → used ≤ 81 → room ≡ min (length bs) (81 - used) → ys ≡ take room bs →
-    take (used + room) (put_mid used k xs ys) ≡ kept (take used xs ++ bs)
-appended xs ys bs used room k all within is e =
+-- one byte more, where there is room
+pub stored : (xs : List ℕ) (used byte : ℕ) → length xs ≡ 81 → used < 81 → take (used + 1) (set xs used byte) ≡ kept (take used xs ++ byte ∷ [])
+stored xs used byte all room =
     let front = length-take used xs in
-    let behind : length ys ≡ room = ap length e ∙ length-take room bs ∙ omega arith in
-    take-put_mid used k xs ys (used + room) (omega arith) (omega arith)
-    ∙ ap (λ cs. take used xs ++ cs) (e ∙ ap (λ n. take n bs) is)
-    ∙ with_room (take used xs) bs (81 - used) (omega arith)
+    let longer = length-append (take used xs) (byte ∷ []) in
+    take_more_set xs used byte (omega arith) ∙ sym (take_all 81 (take used xs ++ byte ∷ []) (omega arith))
 
--- What lies behind them then: what lay behind so many bytes more.
-pub behind_appended : (xs ys bs : List ℕ) (used room k : ℕ) → length xs ≡ 81 → used ≤ 81 → room ≡ min (length bs) (81 - used) → ys ≡ take room bs → k ≡ room →
-    drop (used + room) (put_mid used k xs ys) ≡ drop (length bs) (drop used xs)
-behind_appended xs ys bs used room k all within is e whole =
-    let long : length ys ≡ k = ap length e ∙ length-take room bs ∙ omega arith in
-    drop-put_mid used k xs ys (used + room) (omega arith) (omega arith) long
-    ∙ elim (cases_lt (length bs) (81 - used)) [
-      | inl fits ↦ ap (λ n. drop n xs) (let n : used + room ≡ used + length bs = omega arith in n) ∙ sym (drop-drop (length bs) used xs)
-      | inr over ↦
-          drop_of_length-le xs (omega arith)
-          ∙ sym (drop_of_length-le xs {i = used + length bs} (omega arith))
-          ∙ sym (drop-drop (length bs) used xs)
-    ]
+pub behind_stored : (xs : List ℕ) (used byte : ℕ) → drop (used + 1) (set xs used byte) ≡ drop 1 (drop used xs)
+behind_stored xs used byte = drop-set-lt (used + 1) xs used byte (omega arith) ∙ sym (drop-drop 1 used xs)
+
+-- and where there is none
+pub not_stored : (b : List ℕ) (byte : ℕ) → length b ≡ 81 → b ≡ kept (b ++ byte ∷ [])
+not_stored b byte full = sym (take_all 81 b (omega arith)) ∙ sym (take-append-le 81 b (byte ∷ []) (omega arith))
+
+-- byte after byte: from the front of the places on, and behind it
+pub placed : (xs ys bs : List ℕ) (begun i byte : ℕ) → length ys ≡ 81 → begun + i < 81 → i < length bs → byte ≡ get_or bs i 0 → take (begun + i) ys ≡ take begun xs ++ take i bs →
+    take (begun + (i + 1)) (set ys (begun + i) byte) ≡ take begun xs ++ take (i + 1) bs
+placed xs ys bs begun i byte all room within same is =
+    let longer : take i bs ++ byte ∷ [] ≡ take (i + 1) bs = ap (λ x. take i bs ++ x ∷ []) same ∙ sym (take_more bs i 0 within) in
+    let next : begun + (i + 1) ≡ begun + i + 1 = omega arith in
+    ap (λ n. take n (set ys (begun + i) byte)) next
+    ∙ take_more_set ys (begun + i) byte (omega arith)
+    ∙ ap (λ cs. cs ++ byte ∷ []) is
+    ∙ append_assoc (take begun xs) (take i bs) (byte ∷ [])
+    ∙ ap (λ cs. take begun xs ++ cs) longer
+
+pub behind_placed : (xs ys : List ℕ) (begun i byte : ℕ) → drop (begun + i) ys ≡ drop (begun + i) xs → drop (begun + (i + 1)) (set ys (begun + i) byte) ≡ drop (begun + (i + 1)) xs
+behind_placed xs ys begun i byte is =
+    let next : begun + (i + 1) ≡ begun + i + 1 = omega arith in
+    ap (λ n. drop n (set ys (begun + i) byte)) next
+    ∙ drop-set-lt (begun + i + 1) ys (begun + i) byte (omega arith)
+    ∙ sym (drop-drop 1 (begun + i) ys)
+    ∙ ap (drop 1) is
+    ∙ drop-drop 1 (begun + i) xs
+    ∙ ap (λ n. drop n xs) (sym next)
+
+-- of no more bytes than are kept all are kept
+few_kept : (before after bs : List ℕ) → length before + length bs ≤ 81 → after ≡ before ++ bs → after ≡ kept (before ++ bs)
+few_kept before after bs few e = e ∙ sym (take_all 81 (before ++ bs) (omega (arith, length-append before bs)))
+
+-- as many bytes as there is room for are as good as more
+pub taken_all : (old after bs : List ℕ) (room n : ℕ) → length old ≤ 81 → room ≡ min (length bs) (81 - length old) → room ≤ n → n ≤ length bs → after ≡ kept (old ++ take room bs) →
+    after ≡ kept (old ++ take n bs)
+taken_all old after bs room n within is more inside e =
+    let few = length-take n bs in
+    let same : room ≡ min (length (take n bs)) (81 - length old) = omega arith in
+    e
+    ∙ ap (λ cs. kept (old ++ cs)) (sym (take-take room n bs more) ∙ ap (λ k. take k (take n bs)) same)
+    ∙ ap kept (with_room old (take n bs) (81 - length old) (omega arith))
+    ∙ take-take 81 81 (old ++ take n bs) (omega arith)
 
 -- a byte is a line feed
-abbrev feeds : ℕ → Bool
+abbrev pub feeds : ℕ → Bool
 feeds b = eqb b 10
+
+upto : (chunk : List ℕ) (r : Option ℕ) → FeedAt chunk r → before_feed chunk r ≤ length chunk
+upto chunk None at = omega arith
+upto chunk (Some p) at = omega (arith, at.0)
 
 no_feed : (chunk : List ℕ) → None ≡ position feeds chunk → length chunk ≤ position_or_len feeds chunk
 no_feed chunk e =
@@ -74,17 +101,74 @@ no_feed chunk e =
       | inr ge ↦ ge
     ]
 
+-- the place of the first line feed behind the first n bytes
+pub none_behind : (n : ℕ) (chunk : List ℕ) → None ≡ position feeds (drop n chunk) → (k : ℕ) → n ≤ k → k < length chunk → get_or chunk k 0 ≢ 10
+none_behind n chunk is k from within =
+    let past = no_feed (drop n chunk) is in
+    let long = length-drop n chunk in
+    let f = fails_before_first feeds (drop n chunk) (k - n) 0 (omega arith) in
+    let same = get_or-drop n chunk (k - n) 0 in
+    let place : n + (k - n) ≡ k = omega arith in
+    let here = same ∙ ap (λ j. get_or chunk j 0) place in
+    grind (arith, nat_tests)
+
+pub first_behind : (n i : ℕ) (chunk : List ℕ) → Some i ≡ position feeds (drop n chunk) →
+    (n + i < length chunk) × (get_or chunk (n + i) 0 ≡ 10) × ((k : ℕ) → n ≤ k → k < n + i → get_or chunk k 0 ≢ 10)
+first_behind n i chunk is =
+    let p = position-Some feeds (drop n chunk) i 0 (sym is) in
+    let long = length-drop n chunk in (
+      omega (arith, p.0, long),
+      sym (get_or-drop n chunk i 0) ∙ eqb-true (get_or (drop n chunk) i 0) 10 p.1,
+      λ k from lt.
+          let f = p.2 (k - n) (omega arith) in
+          let same = get_or-drop n chunk (k - n) 0 in
+          let place : n + (k - n) ≡ k = omega arith in
+          let here = same ∙ ap (λ j. get_or chunk j 0) place in
+          grind (arith, nat_tests),
+    )
+
 -- the chunk up to its first line feed
-pub fed : (before after chunk : List ℕ) (r : Option ℕ) → r ≡ position feeds chunk → after ≡ kept (before ++ take (unwrap_or r (length chunk)) chunk) → Fed before after chunk r
-fed before after chunk None is e =
-    let past = no_feed chunk is in record {
-      place = tt;
-      first = λ k lt h. let f = fails_before_first feeds chunk k 0 (omega arith) in grind (arith, nat_tests);
-      taken = goes_on before after (take (length chunk) chunk) e;
-    }
-fed before after chunk (Some i) is e =
-    let p = position-Some feeds chunk i 0 (sym is) in record {
-      place = (p.0, eqb-true (get_or chunk i 0) 10 p.1);
-      first = λ k lt h. let f = p.2 k lt in grind (arith, nat_tests);
-      taken = goes_on before after (take i chunk) e;
-    }
+pub fed : (before after chunk : List ℕ) (r : Option ℕ) → FeedAt chunk r → ((k : ℕ) → k < before_feed chunk r → get_or chunk k 0 ≢ 10) →
+    after ≡ kept (before ++ take (before_feed chunk r) chunk) → Fed before after chunk r
+fed before after chunk r at first e = record { place = at; first = first; taken = goes_on before after (take (before_feed chunk r) chunk) e }
+
+-- found in the first n bytes, for which there is room
+pub kept_near : (before after chunk : List ℕ) (n p : ℕ) → length before + n ≤ 81 → FeedAt (take n chunk) (Some p) → after ≡ before ++ take p (take n chunk) →
+    after ≡ kept (before ++ take p chunk)
+kept_near before after chunk n p room at e =
+    let few = length-take n chunk in
+    let near = length-take p (take n chunk) in
+    few_kept before after (take p (take n chunk)) (omega (arith, at.0, few, near)) e ∙ ap (λ bs. kept (before ++ bs)) (take-take p n chunk (omega (arith, at.0, few)))
+
+pub found_near : (before after chunk : List ℕ) (n p : ℕ) → length before + n ≤ 81 → FeedAt (take n chunk) (Some p) → ((k : ℕ) → k < p → get_or (take n chunk) k 0 ≢ 10) →
+    after ≡ before ++ take p (take n chunk) → Fed before after chunk (Some p)
+found_near before after chunk n p room at first e =
+    let few = length-take n chunk in
+    let near : p < n = omega (arith, at.0, few) in
+    fed before after chunk (Some p)
+    (omega (arith, at.0, few), sym (get_or-take n chunk p 0 near) ∙ at.1)
+    (λ k lt is. first k lt (get_or-take n chunk k 0 (omega arith) ∙ is))
+    (kept_near before after chunk n p room at e)
+
+-- and not found there: as many bytes were taken as there was room for
+pub kept_all : (before after chunk : List ℕ) (n : ℕ) (r : Option ℕ) → length before ≤ 81 → n ≡ min (length chunk) (81 - length before) → FeedAt chunk r → n ≤ before_feed chunk r →
+    after ≡ before ++ take (length (take n chunk)) (take n chunk) → after ≡ kept (before ++ take (before_feed chunk r) chunk)
+kept_all before after chunk n r within is at from e =
+    let few = length-take n chunk in
+    let whole = take_all (length (take n chunk)) (take n chunk) (omega arith) in
+    taken_all before after chunk n (before_feed chunk r) within is from (upto chunk r at)
+    (few_kept before after (take n chunk) (omega arith) (e ∙ ap (λ bs. before ++ bs) whole))
+
+pub not_near : (before after chunk : List ℕ) (n : ℕ) (r : Option ℕ) → length before ≤ 81 → n ≡ min (length chunk) (81 - length before) → FeedAt chunk r → n ≤ before_feed chunk r →
+    ((k : ℕ) → k < length (take n chunk) → get_or (take n chunk) k 0 ≢ 10) → ((k : ℕ) → n ≤ k → k < before_feed chunk r → get_or chunk k 0 ≢ 10) →
+    after ≡ before ++ take (length (take n chunk)) (take n chunk) → Fed before after chunk r
+not_near before after chunk n r within is at from near far e =
+    let few = length-take n chunk in
+    let whole : length (take n chunk) ≡ n = omega arith in
+    fed before after chunk r at
+    (λ k lt.
+    elim (cases_lt k n) [
+      | inl below ↦ λ is10. near k (omega (arith, whole)) (get_or-take n chunk k 0 below ∙ is10)
+      | inr behind ↦ far k behind lt
+    ])
+    (kept_all before after chunk n r within is at from e)

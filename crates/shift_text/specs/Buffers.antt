@@ -1,11 +1,15 @@
 -- What is kept of a line while it is read: the list of its first bytes.
-use Rattle.std.specs.Prelude.{◌≡◌, ℕ, ◌<◌, List, ◌++◌, length, take, Some, None, Option, ◌≢◌, slice_index}
+use Rattle.std.specs.Prelude.{◌≡◌, ℕ, ◌+◌, ◌<◌, List, ◌++◌, length, take, Some, None, Option, ◌≢◌, slice_index}
 use Rattle.shift_text.specs.Lines.{kept as first_bytes}
 
 -- The bytes of a buffer: those that are kept of a line, and those behind them.
 pub record Buffer : Type 0 where
   pub kept : List ℕ
   pub beyond : List ℕ
+
+-- the buffer has room for 81 bytes
+abbrev pub HasRoom : Buffer → Type 0
+HasRoom b = length b.kept + length b.beyond ≡ 81
 
 -- the buffer has what is kept of the line
 abbrev pub Holds : List ℕ → List ℕ → Type 0

@@ -1,8 +1,15 @@
-use Rattle.std.proofs.Common.{ap, arith, drop, length, ◌∙◌}
-use Rattle.shift_text.proofs.Keeping.{behind_appended}
+use Rattle.std.proofs.Common.{ap, arith, below_more, length, length-drop, refl, rules}
+use Rattle.shift_text.proofs.Keeping.{behind_placed, placed}
 use Rattle.shift_text.proofs.line_buffer.LineBuffer.append.Goals as goal
 
-pub returns-clause-beyond : goal.returns-clause-beyond
-returns-clause-beyond c =
-    behind_appended c.self.inside.bytes _ c.args.bytes.now c.self.inside.used c.min-room.result _ c.self.invariant.0 c.self.invariant.1 c.min-room.ensures c.copy_from_slice.ensures.after (omega arith)
-    ∙ ap (λ v. drop (length c.args.bytes.now) v.beyond) c.self.view_is
+pub loop-place-preserved : goal.loop-place-preserved
+loop-place-preserved c =
+    let i = c.loop-place.place in
+    let behind = length-drop c.self.inside.used c.self.inside.bytes in
+    let beyond = ap (λ v. length v.beyond) c.self.view_is in (
+      below_more _ _ c.loop-place.invariant.0 c.if-byte-eq10.false,
+      search rules,
+      placed _ _ c.args.bytes.now _ i _ c.loop-place.invariant.1 (omega (arith, behind, beyond, c.requires, c.loop-place-test.true, c.self.invariant.0)) c.loop-place-test.true refl
+          c.loop-place.invariant.2,
+      behind_placed _ _ _ i _ c.loop-place.invariant.3,
+    )
