@@ -22,17 +22,18 @@ permitted : (w : Moment) (o : Option ℕ) → ended_in w (ok_or o FaultForbidden
 permitted w None = refl
 permitted w (Some state) = refl
 
-pub ended_spoiled : (m : Model) (w : Moment) (q : Quarter) (o : Option ℕ) (r : Result ℕ Refusal) → o ≡ after_spoiled m w.state → r ≡ ok_or o FaultForbidden →
-    q ≡ before_end w (ended_in w r) → q ≡ spoiled m w
-ended_spoiled m w q o r by is e = e ∙ ap (before_end w) (ap (ended_in w) is ∙ permitted w o ∙ ap (spoiled_to w) by)
+-- nothing but the clock's end keeps a quarter from coming
+before : (w : Moment) (q : Quarter) → w.clock < 4096 → before_end w q ≡ q
+before w q room = cond-true (ltb w.clock 4096) q _ (lt-ltb w.clock 4096 room)
+
+pub ended_spoiled : (m : Model) (w : Moment) (q : Quarter) (o : Option ℕ) (r : Result ℕ Refusal) → w.clock < 4096 → o ≡ after_spoiled m w.state → r ≡ ok_or o FaultForbidden →
+    q ≡ ended_in w r → q ≡ spoiled m w
+ended_spoiled m w q o r room by is e = e ∙ ap (ended_in w) is ∙ permitted w o ∙ ap (spoiled_to w) by ∙ sym (before w _ room)
 
 module _ (m : Model) (laws : Laws m) where
   -- the state of a board that has seen faults is a state of the rule
   inside : (w : Moment) (f : List ℕ) → 0 < m.size → Seen m f w → w.state < m.size
   inside w f some seen = leads_stay m laws m.opening 0 w.clock w.state f (laws.opens some) seen
-
-  before : (w : Moment) (q : Quarter) → w.clock < 4096 → before_end w q ≡ q
-  before w q room = cond-true (ltb w.clock 4096) q _ (lt-ltb w.clock 4096 room)
 
   pub pass_seen : (w : Moment) (q : Quarter) → q ≡ passed m w → PassSeen m w q
   pass_seen w q e f some seen room =
