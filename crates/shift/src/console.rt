@@ -2,14 +2,15 @@
 ghost use Rattle.std.specs.Prelude.{◌≡◌, ◌++◌, string_bytes, OnOk};
 ghost use Rattle.shift_text.specs.Replies.{reply_line};
 
+use crate::ahead::Ahead;
 use calls::Refusal;
 use shift_text::{LineBuffer, Reply, ReplyLine};
 use std::alloc::Global;
 use std::io;
-use std::io::{BufRead, BufReader, Read, Write};
+use std::io::{Read, Write};
 
 // So many bytes are asked for at a time.
-const CHUNK: usize = 4096;
+pub(crate) const CHUNK: usize = 4096;
 
 // The longest reply has two numbers of five digits, one of two, a letter, two tabs and a line feed.
 const LONGEST_REPLY: usize = 16;
@@ -21,7 +22,7 @@ const REPLIES: usize = LONGEST_REPLY * CHUNK;
 // contract says what is in it whatever the output is.
 #[derive(Drop)]
 pub(crate) struct Console<I: Read, O: Write> {
-    input: BufReader<I>,
+    input: Ahead<I>,
     ended: bool,
     line: LineBuffer,
     replies: String,
@@ -29,10 +30,10 @@ pub(crate) struct Console<I: Read, O: Write> {
 }
 
 impl<I: Read + Drop, O: Write + Drop> Console<I, O> {
-    // A console that has read nothing. It asks for all the memory that it needs.
+    // A console that has read nothing. It asks for all the memory that it needs, once.
     pub(crate) fn new(input: I, output: O, heap: Global) -> io::Result<Console<I, O>> {
         Ok(Console {
-            input: BufReader::with_capacity(heap, CHUNK, input)?,
+            input: Ahead::new(input),
             ended: false,
             line: LineBuffer::new(),
             replies: String::with_capacity(heap, REPLIES)?,
@@ -51,19 +52,19 @@ impl<I: Read + Drop, O: Write + Drop> Console<I, O> {
     // writes the replies.
     fn refill(&mut self) -> io::Result<bool> {
         self.flush()?;
-        self.ended = self.ended || self.input.fill_buf()?.is_empty();
+        self.ended = self.ended || !self.input.read_more()?;
         Ok(!self.ended)
     }
 
     // The next line, without its line feed, which the last line may lack; None where there is no line more.
     pub(crate) fn next_line(&mut self) -> io::Result<Option<&[u8]>> {
         self.line.clear();
-        if self.input.buffer().is_empty() && !self.refill()? {
+        if self.input.unread().is_empty() && !self.refill()? {
             return Ok(None);
         }
         // A loop must be seen to end; no input has so many chunks.
         for _ in 0..u64::MAX {
-            let chunk = self.input.buffer();
+            let chunk = self.input.unread();
             let length = chunk.len();
             if let Some(place) = self.line.feed(chunk) {
                 self.input.consume(place + 1);
