@@ -5,3 +5,4 @@ pub mod Openings
 pub mod Texts
 pub mod Replies
 pub mod Buffers
+pub mod LineBuffers

@@ -4,35 +4,19 @@ ghost use Rattle.shift_text.specs.Lines.{kept as first_bytes};
 ghost use Rattle.std.specs.Prelude.{◌≡◌, ◌≢◌, ◌==◌, ℕ, ◌<◌, ◌≤◌, [], ◌∷◌, ◌++◌, drop, length, position, slice_index, take};
 
 use crate::fields::LONGEST;
-use std::marker::Model;
 
 // So many bytes are kept of a line, one more than it may have.
 const KEPT: usize = LONGEST + 1;
 
 // The line that is being read. Of a longer line the first bytes are kept, which say what the whole line says.
-// They lie in an array: `new` takes no allocator and cannot fail, and a line can be copied.
+// They lie in an array: `new` takes no allocator and cannot fail, and a line can be copied. A struct that holds a line can be copied
+// too, so it has no model: a `Copy` struct with one inside is not covered where it is passed by value and used again.
 #[derive(Clone, Copy)]
 pub struct LineBuffer {
     bytes: [u8; KEPT],
     used: usize,
-}
-
-// A clause sees the bytes that are kept, and those behind them.
-impl Model for LineBuffer {
-    ghost use Rattle.shift_text.specs.Buffers.{Buffer};
-    ghost use Rattle.std.proofs.Common.{arith, length-take};
-    ghost use Rattle.std.proofs.lemmas.List.{take-append-drop};
-    ghost use Rattle.std.specs.Prelude.{◌≡◌, ◌≤◌, ◌++◌, drop, length, take};
-
-    ghost Value = { Buffer };
-
-    ghost view = { λ b. record { kept = take b.used b.bytes; beyond = drop b.used b.bytes } };
-
-    ghost invariant = { λ b. (length b.bytes ≡ 81) × (b.used ≤ 81) };
-
-    ghost inverse = { λ v. record { bytes = v.kept ++ v.beyond; used = length v.kept } };
-
-    ghost inverse_ok = { λ a h. let n : length (take a.used a.bytes) ≡ a.used = Prim.omega (arith, h.0, h.1, length-take a.used a.bytes) in λ i. record { bytes = take-append-drop a.used a.bytes i; used = n i } };
+    ghost room: { length bytes ≡ 81 },
+    ghost within: { used ≤ 81 },
 }
 
 // The place of the first line feed.
@@ -54,11 +38,13 @@ fn line_feed_from(chunk: &[u8], from: usize) -> Option<usize>
 }
 
 impl LineBuffer {
+    ghost use Rattle.shift_text.specs.LineBuffers.{buffer};
+
     // The empty line.
     pub fn new() -> LineBuffer
-        ensures empty { result.kept ≡ [] }
-        ensures holds { Holds result.kept [] }
-        ensures room { HasRoom result }
+        ensures empty { (buffer result).kept ≡ [] }
+        ensures holds { Holds (buffer result).kept [] }
+        ensures room { HasRoom (buffer result) }
     {
         LineBuffer {
             bytes: [0; KEPT],
@@ -68,28 +54,28 @@ impl LineBuffer {
 
     // The line so far.
     pub fn bytes(&self) -> &[u8]
-        ensures content { result.now ≡ self.now.kept }
+        ensures content { result.now ≡ (buffer self.now).kept }
         ensures few { length result.now ≤ 81 }
-        ensures room { HasRoom self.now }
+        ensures room { HasRoom (buffer self.now) }
     {
         &self.bytes[..self.used]
     }
 
     // One byte more.
     pub fn push(&mut self, byte: u8)
-        ensures pushed { self.new.kept ≡ first_bytes (self.old.kept ++ byte ∷ []) }
-        ensures goes_on { GoesOn self.old.kept self.new.kept (byte ∷ []) }
-        ensures beyond { self.new.beyond ≡ drop 1 self.old.beyond }
-        ensures room { HasRoom self.old × HasRoom self.new }
+        ensures pushed { (buffer self.new).kept ≡ first_bytes ((buffer self.old).kept ++ byte ∷ []) }
+        ensures goes_on { GoesOn (buffer self.old).kept (buffer self.new).kept (byte ∷ []) }
+        ensures beyond { (buffer self.new).beyond ≡ drop 1 (buffer self.old).beyond }
+        ensures room { HasRoom (buffer self.old) × HasRoom (buffer self.new) }
     {
         self.store(byte);
     }
 
     // The byte goes behind those of the line, where there is room.
     fn store(&mut self, byte: u8)
-        ensures kept { self.new.kept ≡ first_bytes (self.old.kept ++ byte ∷ []) }
-        ensures beyond { self.new.beyond ≡ drop 1 self.old.beyond }
-        ensures room { HasRoom self.old × HasRoom self.new }
+        ensures kept { (buffer self.new).kept ≡ first_bytes ((buffer self.old).kept ++ byte ∷ []) }
+        ensures beyond { (buffer self.new).beyond ≡ drop 1 (buffer self.old).beyond }
+        ensures room { HasRoom (buffer self.old) × HasRoom (buffer self.new) }
     {
         if self.used < KEPT {
             self.bytes[self.used] = byte;
@@ -100,9 +86,9 @@ impl LineBuffer {
     // Takes the bytes of the chunk before its first line feed, and answers the place of that line feed. Bytes for which there is no
     // room are only searched.
     pub fn feed(&mut self, chunk: &[u8]) -> Option<usize>
-        ensures fed { Fed self.old.kept self.new.kept chunk.now result }
-        ensures kept { self.new.kept ≡ first_bytes (self.old.kept ++ take (before_feed chunk.now result) chunk.now) }
-        ensures room { HasRoom self.old × HasRoom self.new }
+        ensures fed { Fed (buffer self.old).kept (buffer self.new).kept chunk.now result }
+        ensures kept { (buffer self.new).kept ≡ first_bytes ((buffer self.old).kept ++ take (before_feed chunk.now result) chunk.now) }
+        ensures room { HasRoom (buffer self.old) × HasRoom (buffer self.new) }
     {
         let room = chunk.len().min(KEPT - self.used);
         match self.append(&chunk[..room]) {
@@ -113,10 +99,10 @@ impl LineBuffer {
 
     // The next line begins.
     pub fn clear(&mut self)
-        ensures empty { self.new.kept ≡ [] }
-        ensures holds { Holds self.new.kept [] }
-        ensures beyond { self.new.beyond ≡ self.old.kept ++ self.old.beyond }
-        ensures room { HasRoom self.old × HasRoom self.new }
+        ensures empty { (buffer self.new).kept ≡ [] }
+        ensures holds { Holds (buffer self.new).kept [] }
+        ensures beyond { (buffer self.new).beyond ≡ (buffer self.old).kept ++ (buffer self.old).beyond }
+        ensures room { HasRoom (buffer self.old) × HasRoom (buffer self.new) }
     {
         self.used = 0;
     }
@@ -124,11 +110,11 @@ impl LineBuffer {
     // The bytes before the first line feed go behind those of the line, which has room for all. Answers the place of that line feed.
     // `used` is written once, at the end: written byte by byte, it would be read back from memory each time.
     fn append(&mut self, bytes: &[u8]) -> Option<usize>
-        requires { length bytes.now ≤ length self.old.beyond }
+        requires { length bytes.now ≤ length (buffer self.old).beyond }
         ensures place { FeedAt bytes.now result }
         ensures first { (k : ℕ) → k < before_feed bytes.now result → slice_index bytes.now k ≢ 10 }
-        ensures kept { self.new.kept ≡ self.old.kept ++ take (before_feed bytes.now result) bytes.now }
-        ensures beyond { self.new.beyond ≡ drop (before_feed bytes.now result) self.old.beyond }
+        ensures kept { (buffer self.new).kept ≡ (buffer self.old).kept ++ take (before_feed bytes.now result) bytes.now }
+        ensures beyond { (buffer self.new).beyond ≡ drop (before_feed bytes.now result) (buffer self.old).beyond }
     {
         let begun = self.used;
         for (place, byte) in bytes.iter().enumerate() {

@@ -128,6 +128,31 @@ fn long_lines(rt: HostRuntime) {
     assert_eq!(rt; read_call(line.bytes()), Ok(Call::Spoil));
 }
 
+#[derive(Clone, Copy)]
+struct Reading {
+    line: LineBuffer,
+    number: u32,
+}
+
+fn number_of(reading: Reading) -> u32 {
+    reading.number
+}
+
+fn twice(reading: Reading) -> u32 {
+    number_of(reading).wrapping_add(number_of(reading))
+}
+
+// A struct that holds a line is passed by value and used again, which the check would not cover if the line had a model.
+#[test]
+fn copied_with_a_line(rt: HostRuntime) {
+    let reading = Reading {
+        line: LineBuffer::new(),
+        number: 7,
+    };
+    assert_eq!(rt; twice(reading), 14);
+    assert_eq!(rt; reading.line.bytes().len(), 0);
+}
+
 #[test]
 fn reply_lines(rt: HostRuntime) -> Result<(), Fail> {
     let heap = rt.alloc();
