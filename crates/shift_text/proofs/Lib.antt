@@ -13,3 +13,4 @@ pub mod OpeningRead
 pub mod Cutting
 pub mod Replying
 pub mod Keeping
+pub mod SameLine
