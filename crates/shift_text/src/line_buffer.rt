@@ -10,7 +10,7 @@ const KEPT: usize = LONGEST + 1;
 
 // The line that is being read. Of a longer line the first bytes are kept, which say what the whole line says.
 // They lie in an array: `new` takes no allocator and cannot fail, and a line can be copied. A line has no model: with a model inside,
-// a `Copy` struct is not covered where it is passed by value and used again.
+// a `Copy` struct is not covered by the check where it is passed by value and used again.
 #[derive(Clone, Copy)]
 pub struct LineBuffer {
     bytes: [u8; KEPT],

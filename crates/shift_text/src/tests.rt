@@ -142,7 +142,7 @@ fn twice(reading: Reading) -> u32 {
     number_of(reading).wrapping_add(number_of(reading))
 }
 
-// A struct that holds a line is passed by value and used again, which the check would not cover if the line had a model.
+// A struct that holds a line is passed by value and used again, which the check does not cover where a line has a model.
 #[test]
 fn copied_with_a_line(rt: HostRuntime) {
     let reading = Reading {
