@@ -6,7 +6,7 @@ use Rattle.std.proofs.Math.Nat.{min_comm}
 use Rattle.std.proofs.Math.Seq.{take-append-add}
 use Rattle.std.proofs.lemmas.Bool.{cases_lt, cond-true, eqb-true, lt-ltb}
 use Rattle.std.proofs.lemmas.Bool.Decides.{nat_tests}
-use Rattle.std.proofs.lemmas.List.{drop-set-lt, get_or-drop, get_or-take, length-drop, take-append-le, take-take, take_all, take_min, take_more, take_more_set}
+use Rattle.std.proofs.lemmas.List.{drop-set-lt, drop_min, get_or-drop, get_or-take, length-drop, take-append-le, take-take, take_all, take_min, take_more, take_more_set}
 use Rattle.std.proofs.lemmas.List.Quantifiers.{position-Some}
 use Rattle.std.proofs.lemmas.List.Sums.{fails_before_first}
 use Rattle.std.proofs.lemmas.Option.{none-some}
@@ -158,6 +158,15 @@ kept_all before after chunk n r within is at from e =
     let whole = take_all (length (take n chunk)) (take n chunk) (omega arith) in
     taken_all before after chunk n (before_feed chunk r) within is from (upto chunk r at)
     (few_kept before after (take n chunk) (omega arith) (e ∙ ap (λ bs. before ++ bs) whole))
+
+-- and behind the line as many fewer lie
+pub behind_all : (beyond chunk : List ℕ) (n : ℕ) (r : Option ℕ) → n ≡ min (length chunk) (length beyond) → FeedAt chunk r → n ≤ before_feed chunk r →
+    drop (length (take n chunk)) beyond ≡ drop (before_feed chunk r) beyond
+behind_all beyond chunk n r is at from =
+    let few = length-take n chunk in
+    let within = upto chunk r at in
+    let same : length (take n chunk) ≡ min (before_feed chunk r) (length beyond) = omega arith in
+    ap (λ k. drop k beyond) same ∙ drop_min (before_feed chunk r) beyond
 
 pub not_near : (before after chunk : List ℕ) (n : ℕ) (r : Option ℕ) → length before ≤ 81 → n ≡ min (length chunk) (81 - length before) → FeedAt chunk r → n ≤ before_feed chunk r →
     ((k : ℕ) → k < length (take n chunk) → get_or (take n chunk) k 0 ≢ 10) → ((k : ℕ) → n ≤ k → k < before_feed chunk r → get_or chunk k 0 ≢ 10) →

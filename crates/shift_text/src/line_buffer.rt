@@ -88,6 +88,7 @@ impl LineBuffer {
     pub fn feed(&mut self, chunk: &[u8]) -> Option<usize>
         ensures fed { Fed (buffer self.old).kept (buffer self.new).kept chunk.now result }
         ensures kept { (buffer self.new).kept ≡ first_bytes ((buffer self.old).kept ++ take (before_feed chunk.now result) chunk.now) }
+        ensures beyond { (buffer self.new).beyond ≡ drop (before_feed chunk.now result) (buffer self.old).beyond }
         ensures room { HasRoom (buffer self.old) × HasRoom (buffer self.new) }
     {
         let room = chunk.len().min(KEPT - self.used);
